@@ -8,7 +8,7 @@ use mathlib.Core.List.{List}
 use Prim.Native.Nat.{ℕ}
 use Rattle.clock.specs.declared.Counter.{Counter}
 use Rattle.net_table.specs.declared.NetTable.{NetTable}
-use Rattle.host.specs.CallState.{Host}
+use Rattle.host.specs.declared.Host.{Host}
 use Rattle.host.specs.Guard.{done}
 use Rattle.arrival.specs.declared.Arrived.{Arrived}
 use Rattle.host.specs.Inspection.{inspect, tells}

@@ -16,7 +16,8 @@ use Rattle.table.specs.Forms.{Stage, on, end}
 use Rattle.net_table.specs.declared.NetTable.{NetTable}
 use Rattle.host.specs.Settings.{found_for}
 use Rattle.host.specs.State.{host_count, broadcast, link_of, with_link}
-use Rattle.host.specs.CallState.{Host, host, our_reading}
+use Rattle.host.specs.declared.Host.{Host}
+use Rattle.host.specs.CallState.{host, our_reading}
 use Rattle.host.specs.Guard.{done}
 use Rattle.host.specs.declared.Reply.{Reply}
 use Rattle.host.specs.Reply.{plainly}

@@ -6,10 +6,9 @@ ghost use Rattle.clock.specs.Midnight.{day_millis};
 ghost use Rattle.wire.specs.code.Ranges.{Four};
 ghost use Rattle.table.specs.Entry.{up_to};
 ghost use Rattle.host.specs.Settings.{settings_good};
-ghost use Rattle.host.specs.State.{has_place};
+ghost use Rattle.host.specs.State.{has_place, with_link};
 ghost use Rattle.host.specs.CallState.{host};
 ghost use Rattle.host.specs.code.Returned.{RowsBelow};
-ghost use Rattle.clock.specs.Clock.{clock_in_range};
 ghost use Rattle.arrival.specs.Steps.{at_least_min, neighbor_update};
 ghost use Rattle.arrival.specs.Arrival.{
   no_updates,
@@ -30,7 +29,7 @@ use clock::{Clock, Counter};
 use host::link_number::LinkNumber;
 use host::link_state::{broadcast, link_of, with_link};
 use host::replies::plainly;
-use host::{Links, Reply, Settings, host_count, inspection};
+use host::{GoodHost, Host, Link, Links, Reply, host_count, inspection};
 use net_table::NetTable;
 use quantity::{Count, Millis, Seconds, Word};
 use std::ops::ControlFlow;
@@ -89,13 +88,13 @@ pub fn no_updates(c: Clock) -> Updates
 }
 
 // An answer; the entries stay.
-fn ends(a: Answer, s: Settings, c: Clock, l: Links) -> Arrived
-    ensures { result ≡ ends a (host s c l) }
+fn ends(a: Answer, h: Host) -> Arrived
+    ensures { result ≡ ends a h }
 {
     Arrived {
         reply: plainly(a),
-        links: l,
-        work: no_updates(c),
+        links: h.links,
+        work: no_updates(h.clock),
     }
 }
 
@@ -122,30 +121,20 @@ fn neighbor_update(link: LinkNumber, f: Flight) -> Update
 }
 
 // n ids from one on are updated.
-fn updated(
-    s: Settings,
-    c: Clock,
-    l: Links,
-    n: Count,
-    p: Packet,
-    u: Update,
-    id: usize,
-    ids: usize,
-    table: bool,
-) -> Arrived
+fn updated(h: Host, n: Count, p: Packet, u: Update, id: usize, ids: usize, table: bool) -> Arrived
     requires { (id ≤ 255) × (ids ≤ 255) }
-    ensures { result ≡ updated (host s c l) n p u id ids table }
+    ensures { result ≡ updated h n p u id ids table }
 {
     Arrived {
         reply: plainly(Answer::Done),
-        links: l,
+        links: h.links,
         work: Updates {
             first: id,
             end: id + ids,
-            clock: c,
+            clock: h.clock,
             base: 0,
-            clock_host: s.clock_host,
-            hold_interval: s.hold_interval,
+            clock_host: h.settings.clock_host,
+            hold_interval: h.settings.hold_interval,
             count: n,
             date: p.date,
             update: u,
@@ -156,9 +145,7 @@ fn updated(
 
 // Step 5 where the packet has no table: the id that was found for NEIGHBOR-ADDRESS.
 fn no_table(
-    s: Settings,
-    c: Clock,
-    l: Links,
+    h: Host,
     link: LinkNumber,
     n: Count,
     p: Packet,
@@ -166,95 +153,76 @@ fn no_table(
     found: Option<usize>,
 ) -> Arrived
     requires { has_place found ≡ true }
-    ensures { result ≡ no_table (host s c l) link.number n p f found }
+    ensures { result ≡ no_table h link.number n p f found }
 {
     match found {
-        None => ends(Answer::NoHost, s, c, l),
-        Some(id) => updated(s, c, l, n, p, neighbor_update(link, f), id, 1, false),
+        None => ends(Answer::NoHost, h),
+        Some(id) => updated(h, n, p, neighbor_update(link, f), id, 1, false),
     }
 }
 
-fn step5(
-    s: Settings,
-    t: NetTable,
-    c: Clock,
-    l: Links,
-    link: LinkNumber,
-    n: Count,
-    p: Packet,
-    f: Flight,
-) -> Arrived
-    requires { (settings_good s ≡ true) × RowsBelow t s }
-    ensures { result ≡ step5 t (host s c l) link.number n p f }
+fn step5(h: Host, t: NetTable, link: LinkNumber, n: Count, p: Packet, f: Flight) -> Arrived
+    requires { (settings_good h.settings ≡ true) × RowsBelow t h.settings }
+    ensures { result ≡ step5 t h link.number n p f }
 {
     if p.nhosts == 0 {
-        let found = host::found_for(t, s, f.link.neighbor);
-        return no_table(s, c, l, link, n, p, f, found);
+        let found = host::found_for(t, h.settings, f.link.neighbor);
+        return no_table(h, link, n, p, f, found);
     }
-    updated(
-        s,
-        c,
-        l,
-        n,
-        p,
-        neighbor_update(link, f),
-        0,
-        host_count(s),
-        true,
-    )
+    let ids = host_count(h.settings);
+    updated(h, n, p, neighbor_update(link, f), 0, ids, true)
+}
+
+// The host once its clock is read and a link is stored.
+fn stored(h: Host, clock: Clock, link: LinkNumber, x: Link) -> Host
+    ensures { result ≡ host h.settings clock (with_link link.number x h.links) }
+{
+    Host {
+        clock,
+        links: with_link(h.links, link, x),
+        ..h
+    }
 }
 
 // Steps 2 to 5, with one reading.
-fn action(
-    s: Settings,
-    t: NetTable,
-    c: Clock,
-    l: Links,
-    link: LinkNumber,
-    k: Counter,
-    p: Packet,
-) -> Arrived
-    requires s_value { (settings_good s ≡ true) × RowsBelow t s × (clock_in_range c ≡ true) }
+fn action(h: GoodHost, t: NetTable, link: LinkNumber, k: Counter, p: Packet) -> Arrived
+    requires rows { RowsBelow t h.host.settings }
     requires four { Four p.time.0 }
-    ensures { result ≡ action k t (host s c l) link.number p }
+    ensures { result ≡ action k t h.host link.number p }
 {
-    let r = host::our_reading(s, c, k);
-    let n = k.used();
+    let s = h.host.settings;
+    let r = host::our_reading(h, k);
     let clock = r.clock;
-    match steps::two_to_four(broadcast(s, link), clock.hold, p, r.time, link_of(l, link)) {
-        ControlFlow::Break(f) => ends(Answer::DelayNotValid, s, clock, with_link(l, link, f.link)),
-        ControlFlow::Continue(f) => step5(s, t, clock, with_link(l, link, f.link), link, n, p, f),
+    let x = link_of(h.host.links, link);
+    match steps::two_to_four(broadcast(s, link), clock.hold, p, r.time, x) {
+        ControlFlow::Break(f) => ends(Answer::DelayNotValid, stored(h.host, clock, link, f.link)),
+        ControlFlow::Continue(f) => {
+            let after = stored(h.host, clock, link, f.link);
+            step5(after, t, link, k.used(), p, f)
+        }
     }
 }
 
 // The inspection: answers 3 to 9, and what a packet that passes has in it. Nothing changes.
-fn look(s: Settings, c: Clock, l: Links, link: LinkNumber, packet: &[u8]) -> Arrived
-    ensures { result ≡ inspection link.number packet.now (host s c l) }
+fn look(h: Host, link: LinkNumber, packet: &[u8]) -> Arrived
+    ensures { result ≡ inspection link.number packet.now h }
 {
-    let p = inspection::inspect(s, link, packet);
+    let p = inspection::inspect(h.settings, link, packet);
     Arrived {
         reply: inspection::tells(p),
-        links: l,
-        work: no_updates(c),
+        links: h.links,
+        work: no_updates(h.clock),
     }
 }
 
 // Answers 3 to 9 by the inspection, then the action.
-fn act(
-    s: Settings,
-    t: NetTable,
-    c: Clock,
-    l: Links,
-    link: LinkNumber,
-    k: Counter,
-    packet: &[u8],
-) -> Arrived
-    requires { (settings_good s ≡ true) × RowsBelow t s × (clock_in_range c ≡ true) }
-    ensures { result ≡ act link.number k packet.now t (host s c l) }
+fn act(h: GoodHost, t: NetTable, link: LinkNumber, k: Counter, packet: &[u8]) -> Arrived
+    requires { RowsBelow t h.host.settings }
+    ensures { result ≡ act link.number k packet.now t h.host }
 {
-    match inspection::inspect(s, link, packet) {
-        Err(a) => ends(a, s, c, l),
-        Ok(p) => action(s, t, c, l, link, k, p),
+    match inspection::inspect(h.host.settings, link, packet) {
+        Err(a) => ends(a, h.host),
+        Ok(p) => action(h, t, link, k, p),
     }
 }
 
@@ -267,14 +235,14 @@ pub fn on_link(d: Delivery) -> usize
 }
 
 // The arrival in one piece equals the action alone, since the action inspects too.
-pub fn deliver(s: Settings, t: NetTable, c: Clock, l: Links, d: Delivery, packet: &[u8]) -> Arrived
-    requires { (1 ≤ on_link d) × (on_link d ≤ 8) × (settings_good s ≡ true) × RowsBelow t s × (clock_in_range c ≡ true) }
-    ensures { (result ≡ delivered d packet.now t (host s c l)) × (result.work.count.0 < 2 ^ 16) }
+pub fn deliver(h: GoodHost, t: NetTable, d: Delivery, packet: &[u8]) -> Arrived
+    requires { (1 ≤ on_link d) × (on_link d ≤ 8) × RowsBelow t h.host.settings }
+    ensures { (result ≡ delivered d packet.now t h.host) × (result.work.count.0 < 2 ^ 16) }
 {
     match d {
-        Delivery::Inspect(number) => look(s, c, l, LinkNumber { number }, packet),
+        Delivery::Inspect(number) => look(h.host, LinkNumber { number }, packet),
         Delivery::Act(number, k) | Delivery::Receive(number, k) => {
-            act(s, t, c, l, LinkNumber { number }, k, packet)
+            act(h, t, LinkNumber { number }, k, packet)
         }
     }
 }

@@ -30,7 +30,8 @@ use Rattle.host.specs.declared.Links.{Links}
 use Rattle.host.specs.State.{first_place, host_count, broadcast, link_of, with_link}
 use Rattle.host.specs.declared.guard.Scope.TheVariants.{OnLink}
 use Rattle.host.specs.Settings.{found_for, settings_good}
-use Rattle.host.specs.CallState.{Host, host, CallState, our_reading}
+use Rattle.host.specs.declared.Host.{Host}
+use Rattle.host.specs.CallState.{host, CallState, our_reading}
 use Rattle.host.specs.Guard.{guard, done}
 use Rattle.host.specs.code.Returned.{RowsBelow}
 use Rattle.host.proofs.Places.{Holds}
@@ -168,8 +169,11 @@ module _ (x : CallState) (d : Delivery) (octets : List ℕ) (e : done (guard (On
   in_range : clock_in_range x.host.clock ≡ true
   in_range = clock_state x (q.call_state refl)
 
-  pub deliverable : (1 ≤ on_link d) × (on_link d ≤ 8) × (settings_good s ≡ true) × RowsBelow x.nets s × (clock_in_range x.host.clock ≡ true)
-  deliverable = let has = counted _ _ (q.link (on_link d) refl) in (has.from_one, has.to_eight, q.settings, q.rows, in_range)
+  pub host_good : record { good : settings_good s ≡ true; in_range : clock_in_range x.host.clock ≡ true }
+  host_good = record { good = q.settings; in_range = in_range }
+
+  pub deliverable : (1 ≤ on_link d) × (on_link d ≤ 8) × RowsBelow x.nets s
+  deliverable = let has = counted _ _ (q.link (on_link d) refl) in (has.from_one, has.to_eight, q.rows)
 
   pub delivered : (p : Arrived) → (p ≡ definition.delivered d octets x.nets x.host) × (p.work.count.0 < 2 ^ 16) → Delivered x octets p (perform (deliver d octets) x)
   delivered p is =

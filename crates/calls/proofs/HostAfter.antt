@@ -18,7 +18,8 @@ use Rattle.host.specs.declared.guard.Scope.TheVariants.{All, OnLink}
 use Rattle.host.specs.Effect.{answers}
 use Rattle.host.specs.Settings.{found_for, settings_good}
 use Rattle.host.specs.Guard.{guard, done}
-use Rattle.host.specs.CallState.{Host, CallState}
+use Rattle.host.specs.declared.Host.{Host}
+use Rattle.host.specs.CallState.{CallState}
 use Rattle.host.specs.Inspection as inspection
 use Rattle.host.proofs.Guarded.{passed, counted, holds, ready}
 use Rattle.calls.specs.declared.Request.{Request}
@@ -74,8 +75,8 @@ pub self_report_still : (k : Counter) → Still (SelfReport k)
 unfolding definition.self_report
 self_report_still k t h w o e = refl
 
-pub clock_good : (x : CallState) → done (guard All x) ≡ true → (settings_good x.host.settings ≡ true) × (clock_in_range x.host.clock ≡ true)
-clock_good x d = let r = ready All x d in (r.settings, r.clock refl)
+pub host_good : (x : CallState) → done (guard All x) ≡ true → record { good : settings_good x.host.settings ≡ true; in_range : clock_in_range x.host.clock ≡ true }
+host_good x d = let r = ready All x d in record { good = r.settings; in_range = r.clock refl }
 
 module _ (x : CallState) (q : Request) (d : done (guard (scope_of q) x) ≡ true) where
   abbrev e : Entry
@@ -98,9 +99,9 @@ module _ (x : CallState) (q : Request) (d : done (guard (scope_of q) x) ≡ true
         entries = sym (nothing_placed x.number x.entries) ∙ ap (λ (w : Effect). changes (placed x.number w.work) x.entries) is ∙ left.entries;
       }
 
-  pub after_timed : Quiet q → (t : Timed) → Timely t q x.host.settings x.host.clock
+  pub after_timed : Quiet q → (t : Timed) → Timely t q x.host
       → Leaves (perform (ask q) x) t.reply t.clock x.host.links x.walk x.copy x.entries
-  after_timed quiet t is = rw (is x.nets x.host.links x.walk x.copy e) (after_quiet quiet)
+  after_timed quiet t is = rw (is x.nets x.walk x.copy e) (after_quiet quiet)
 
   -- the entries are changed at their places
   pub record AgedWell (t : Aged) : Type 0 where
@@ -108,11 +109,11 @@ module _ (x : CallState) (q : Request) (d : done (guard (scope_of q) x) ≡ true
     pub places : InEntries (placed x.number t.work).first (placed x.number t.work).end x.entries
     pub left : Leaves (perform (ask q) x) t.reply t.clock x.host.links x.walk x.copy (changes (placed x.number t.work) x.entries)
 
-  pub after_aged : Still q → (t : Aged) → Aging t q x.host.settings x.host.clock → AgedWell t
+  pub after_aged : Still q → (t : Aged) → Aging t q x.host → AgedWell t
   after_aged still t is =
       let left = (worked x q d).left in
       let same = sym (still x.nets x.host x.walk x.copy e) in
-      rw (is x.nets x.host.links x.walk x.copy e)
+      rw (is x.nets x.walk x.copy e)
       record {
         ids = (worked x q d).ids;
         places = (worked x q d).places;

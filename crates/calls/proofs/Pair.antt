@@ -13,7 +13,8 @@ use Rattle.table.specs.Sweep.{sweep}
 use Rattle.table.specs.Runs.{updates}
 use Rattle.host.specs.declared.guard.Scope.TheVariants.{OnLink}
 use Rattle.host.specs.declared.Reply.{Reply}
-use Rattle.host.specs.CallState.{Host, CallState, entries_of}
+use Rattle.host.specs.declared.Host.{Host}
+use Rattle.host.specs.CallState.{CallState, entries_of}
 use Rattle.host.specs.Guard.{guard, done}
 use Rattle.host.specs.Inspection.{tells}
 use Rattle.host.specs.Inspection as inspecting

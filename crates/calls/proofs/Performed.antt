@@ -15,7 +15,8 @@ use Rattle.host.specs.declared.Effect.{Effect}
 use Rattle.host.specs.declared.walk.Walk.{Walk}
 use Rattle.host.specs.Settings.{settings_good}
 use Rattle.host.specs.State.{host_count, has_place}
-use Rattle.host.specs.CallState.{Host, CallState}
+use Rattle.host.specs.declared.Host.{Host}
+use Rattle.host.specs.CallState.{CallState}
 use Rattle.host.specs.Guard.{guard, done}
 use Rattle.host.specs.Walk.{walk_in_range}
 use Rattle.host.specs.code.Returned.{initialized, RowsBelow}

@@ -153,11 +153,8 @@ module _ (x : CallState) (i : ℕ) (counter : Counter) (buffer : List ℕ) where
       }
 
   module _ (e : done (guard (OnLink i) x) ≡ true) where
-    pub sendable : (1 ≤ i) × (i ≤ 8) × (settings_good s ≡ true) × (clock_in_range x.host.clock ≡ true)
-    sendable =
-        let q = passed (OnLink i) x e in
-        let has = counted _ _ (q.link i refl) in
-        (has.from_one, has.to_eight, q.settings, clock_state x (q.call_state refl))
+    pub host_good : record { good : settings_good s ≡ true; in_range : clock_in_range x.host.clock ≡ true }
+    host_good = let q = passed (OnLink i) x e in record { good = q.settings; in_range = clock_state x (q.call_state refl) }
 
     -- whether the buffer is too short
     pub sent : Sent x buffer (send_in i counter (length buffer) x.host) (perform (send i counter buffer) x)

@@ -23,7 +23,8 @@ use Rattle.host.specs.Settings.{found_for}
 use Rattle.host.specs.State.{fresh_links}
 use Rattle.host.specs.Walk.{no_walk}
 use Rattle.host.specs.Effect.{each, answers}
-use Rattle.host.specs.CallState.{Host, our_reading}
+use Rattle.host.specs.declared.Host.{Host}
+use Rattle.host.specs.CallState.{our_reading}
 use Rattle.host.specs.Reply.{plainly, returns_route, returns_time}
 use Rattle.walk.specs.Boxes.{at_hand, step}
 use Rattle.calls.specs.declared.Request.{Request}

@@ -1,9 +1,7 @@
 // The result of each request, by value.
 ghost use Rattle.std.specs.Prelude.{◌≡◌, true, false};
-ghost use Rattle.clock.specs.Clock.{clock_in_range};
 ghost use Rattle.host.specs.Settings.{settings_good};
 ghost use Rattle.host.specs.Effect.{answers};
-ghost use Rattle.host.specs.CallState.{host};
 ghost use Rattle.host.specs.Walk.{walk_in_range};
 ghost use Rattle.host.specs.code.Returned.{initialized, Ready, RowsBelow};
 ghost use Rattle.calls.specs.Effects.{
@@ -22,7 +20,7 @@ use host::effects::{answers, each};
 use host::guard::Scope;
 use host::replies::{plainly, returns_route};
 use host::walk::Walk;
-use host::{Effect, Links, Reply, Settings};
+use host::{Effect, GoodHost, Host, Links, Reply, Settings};
 use net_table::NetTable;
 use table::Entry;
 use table::entries::Change;
@@ -80,17 +78,16 @@ fn aged(p: Aged, l: Links, w: Walk) -> Effect
 
 // A self-report. The call of its own has another function for it (`plans::self_report`), which is then called once and compiled into it.
 #[tactic(auto, unfolding(crate::specs::Effects::self_report))]
-fn self_report(s: Settings, c: Clock, l: Links, w: Walk, k: Counter) -> Effect
-    requires { (settings_good s ≡ true) × (clock_in_range c ≡ true) }
-    ensures { result ≡ self_report k (host s c l) w }
+fn self_report(h: GoodHost, w: Walk, k: Counter) -> Effect
+    ensures { result ≡ self_report k h.host w }
 {
-    let r = host::our_reading(s, c, k);
+    let r = host::our_reading(h, k);
     Effect {
         reply: plainly(Answer::Done),
         clock: r.clock,
-        links: l,
+        links: h.host.links,
         walk: w,
-        work: each(s, Change::Reported(r.time)),
+        work: each(h.host.settings, Change::Reported(r.time)),
     }
 }
 
@@ -109,28 +106,27 @@ pub(crate) fn looked(found: Option<usize>, e: Entry) -> Reply
 }
 
 // A match, since each request has input of its own.
-pub(crate) fn effect(
-    s: Settings,
-    t: NetTable,
-    c: Clock,
-    l: Links,
-    w: Walk,
-    copy: &[u8],
-    e: Entry,
-    q: Request,
-) -> Effect
-    requires { Ready (scope_of q) s c × RowsBelow t s × (initialized (scope_of q) ≡ false → walk_in_range s w copy.now ≡ true) }
-    ensures { result ≡ effect q t (host s c l) w copy.now e }
+pub(crate) fn effect(host: Host, t: NetTable, w: Walk, copy: &[u8], e: Entry, q: Request) -> Effect
+    requires { Ready (scope_of q) host.settings host.clock × RowsBelow t host.settings × (initialized (scope_of q) ≡ false → walk_in_range host.settings w copy.now ≡ true) }
+    ensures { result ≡ effect q t host w copy.now e }
 {
+    let l = host.links;
     match q {
-        Request::Initialize => initialize(s),
-        Request::Tick(n) => timed(plans::tick(s, c, n), l, w),
-        Request::Adjust(n) => timed(plans::adjust(s, c, n), l, w),
-        Request::Set(ms, n) => timed(plans::set(s, c, ms, n), l, w),
-        Request::Read(k) => timed(plans::read(s, c, k), l, w),
-        Request::Second => aged(plans::second(s, c), l, w),
-        Request::SelfReport(k) => self_report(s, c, l, w, k),
-        Request::Lookup(a) => { answers(c, l, w, looked(host::found_for(t, s, a), e)) }
-        Request::Step(k) => walk::step(s, t, c, l, w, copy, e, k),
+        Request::Initialize => initialize(host.settings),
+        Request::Tick(n) => timed(plans::tick(GoodHost { host }, n), l, w),
+        Request::Adjust(n) => timed(plans::adjust(GoodHost { host }, n), l, w),
+        Request::Set(ms, n) => timed(plans::set(GoodHost { host }, ms, n), l, w),
+        Request::Read(k) => timed(plans::read(GoodHost { host }, k), l, w),
+        Request::Second => aged(plans::second(host), l, w),
+        Request::SelfReport(k) => self_report(GoodHost { host }, w, k),
+        Request::Lookup(a) => {
+            answers(
+                host.clock,
+                l,
+                w,
+                looked(host::found_for(t, host.settings, a), e),
+            )
+        }
+        Request::Step(k) => walk::step(GoodHost { host }, t, w, copy, e, k),
     }
 }

@@ -4,7 +4,7 @@
 #![tactic(auto)]
 
 ghost use Rattle.std.specs.Prelude.{◌≡◌, not};
-ghost use Rattle.host.specs.CallState.{call_state};
+ghost use Rattle.host.specs.CallState.{host, call_state};
 ghost use Rattle.host.specs.Guard.{done};
 ghost use Rattle.host.specs.declared.guard.Scope.TheVariants.{All, OnLink, Opening};
 ghost use Rattle.calls.specs.declared.Request.TheVariants.{Initialize, Tick, Adjust, Set, Read, Second, SelfReport, Lookup};
@@ -20,7 +20,7 @@ use host::guard::{Scope, guard, guard_initialize};
 use host::link_number::LinkNumber;
 use host::replies::plainly;
 use host::walk::Walk;
-use host::{Links, Reply, Settings};
+use host::{GoodHost, Host, Links, Reply, Settings};
 use net_table::NetTable;
 use quantity::Count;
 use table::Entry;
@@ -55,6 +55,17 @@ fn refuses(g: Answer) -> bool
     g != Answer::Done
 }
 
+// The host of its borrowed parts.
+fn host_of(settings: &Settings, clock: &Clock, links: &Links) -> Host
+    ensures { result ≡ host settings.now clock.now links.now }
+{
+    Host {
+        settings: *settings,
+        clock: *clock,
+        links: *links,
+    }
+}
+
 // A request: the calls that borrow no octets except the copy of a walk's packet.
 pub fn call(
     settings: &Settings,
@@ -78,14 +89,12 @@ pub fn call(
     if refuses(g) {
         return plainly(g);
     }
-    let s = *settings;
     let t = *net_table;
-    let c = *clock;
-    let l = *links;
     let v = *walk;
-    let z = places::sought(s, t, v, number, request);
+    let z = places::sought(*settings, t, v, number, request);
     let e = entry_of(entries, z);
-    let p = effects::effect(s, t, c, l, v, copy, e, request);
+    let h = host_of(settings, clock, links);
+    let p = effects::effect(h, t, v, copy, e, request);
     let w = places::placed(number, p.work);
     change_all(entries, w);
     *clock = p.clock;
@@ -152,7 +161,10 @@ pub fn tick(
     if refuses(g) {
         return plainly(g);
     }
-    let p = plans::tick(*settings, *clock, count);
+    let h = GoodHost {
+        host: host_of(settings, clock, links),
+    };
+    let p = plans::tick(h, count);
     *clock = p.clock;
     p.reply
 }
@@ -187,7 +199,10 @@ pub fn adjust(
     if refuses(g) {
         return plainly(g);
     }
-    let p = plans::adjust(*settings, *clock, count);
+    let h = GoodHost {
+        host: host_of(settings, clock, links),
+    };
+    let p = plans::adjust(h, count);
     *clock = p.clock;
     p.reply
 }
@@ -223,7 +238,10 @@ pub fn set(
     if refuses(g) {
         return plainly(g);
     }
-    let p = plans::set(*settings, *clock, ms, count);
+    let h = GoodHost {
+        host: host_of(settings, clock, links),
+    };
+    let p = plans::set(h, ms, count);
     *clock = p.clock;
     p.reply
 }
@@ -258,7 +276,10 @@ pub fn read(
     if refuses(g) {
         return plainly(g);
     }
-    let p = plans::read(*settings, *clock, counter);
+    let h = GoodHost {
+        host: host_of(settings, clock, links),
+    };
+    let p = plans::read(h, counter);
     *clock = p.clock;
     p.reply
 }
@@ -292,7 +313,7 @@ pub fn second(
     if refuses(g) {
         return plainly(g);
     }
-    let p = plans::second(*settings, *clock);
+    let p = plans::second(host_of(settings, clock, links));
     let w = places::placed(number, p.work);
     change_all(entries, w);
     *clock = p.clock;
@@ -329,7 +350,10 @@ pub fn self_report(
     if refuses(g) {
         return plainly(g);
     }
-    let p = plans::self_report(*settings, *clock, counter);
+    let h = GoodHost {
+        host: host_of(settings, clock, links),
+    };
+    let p = plans::self_report(h, counter);
     let w = places::placed(number, p.work);
     change_all(entries, w);
     *clock = p.clock;
@@ -442,8 +466,11 @@ pub fn send(
     if refuses(g) {
         return plainly(g);
     }
+    let h = GoodHost {
+        host: host_of(settings, clock, links),
+    };
     let i = LinkNumber { number: link };
-    let p = sending::send_in(*settings, *clock, *links, i, counter, buffer.len());
+    let p = sending::send_in(h, i, counter, buffer.len());
     let w = places::reports_at(number, p.work);
     read_out(buffer, entries, w);
     sending::finish(buffer, p);
@@ -523,7 +550,10 @@ pub fn deliver(
     if refuses(g) {
         return plainly(g);
     }
-    let p = arrival::deliver(*settings, *net_table, *clock, *links, delivery, packet);
+    let h = GoodHost {
+        host: host_of(settings, clock, links),
+    };
+    let p = arrival::deliver(h, *net_table, delivery, packet);
     let w = places::updates_at(number, p.work);
     *links = p.links;
     *clock = update_all(entries, w, packet);

@@ -1,7 +1,5 @@
 // The results of the calls that change neither links nor walk, by value.
-ghost use Rattle.std.specs.Prelude.{◌≡◌, true};
-ghost use Rattle.clock.specs.Clock.{clock_in_range};
-ghost use Rattle.host.specs.Settings.{settings_good};
+ghost use Rattle.std.specs.Prelude.{◌≡◌};
 ghost use Rattle.host.specs.Inspection.{inspect, tells};
 ghost use Rattle.calls.specs.declared.Request.TheVariants.{Tick, Adjust, Set, Read, Second, SelfReport};
 ghost use Rattle.calls.specs.code.Planned.{Timely, Aging};
@@ -11,7 +9,7 @@ use clock::{Clock, Counter};
 use host::effects::each;
 use host::link_number::LinkNumber;
 use host::replies::{plainly, returns_time};
-use host::{Reply, Settings, inspection};
+use host::{GoodHost, Host, Reply, Settings, inspection};
 use quantity::{Count, Millis};
 use table::entries::{Change, Changes};
 
@@ -31,43 +29,55 @@ pub struct Aged {
 }
 
 #[tactic(auto, unfolding(crate::specs::Effects::tick))]
-pub(crate) fn tick(s: Settings, c: Clock, n: Count) -> Timed
-    requires { (settings_good s ≡ true) × (clock_in_range c ≡ true) }
-    ensures { Timely result (Tick n) s c }
+pub(crate) fn tick(h: GoodHost, n: Count) -> Timed
+    ensures { Timely result (Tick n) h.host }
 {
+    let Host {
+        settings,
+        clock,
+        ..
+    } = h.host;
     Timed {
         reply: plainly(Answer::Done),
-        clock: c.ticked(s.clock_tick, s.hold_interval, n),
+        clock: clock.ticked(settings.clock_tick, settings.hold_interval, n),
     }
 }
 
 #[tactic(auto, unfolding(crate::specs::Effects::adjust))]
-pub(crate) fn adjust(s: Settings, c: Clock, n: Count) -> Timed
-    requires { (settings_good s ≡ true) × (clock_in_range c ≡ true) }
-    ensures { Timely result (Adjust n) s c }
+pub(crate) fn adjust(h: GoodHost, n: Count) -> Timed
+    ensures { Timely result (Adjust n) h.host }
 {
+    let Host {
+        settings,
+        clock,
+        ..
+    } = h.host;
     Timed {
         reply: plainly(Answer::Done),
-        clock: c.adjusted(s.hold_interval, n),
+        clock: clock.adjusted(settings.hold_interval, n),
     }
 }
 
-pub(crate) fn set(s: Settings, c: Clock, ms: i32, n: Count) -> Timed
-    requires { (settings_good s ≡ true) × (clock_in_range c ≡ true) }
-    ensures { Timely result (Set ms n) s c }
+#[inline]
+pub(crate) fn set(h: GoodHost, ms: i32, n: Count) -> Timed
+    ensures { Timely result (Set ms n) h.host }
 {
+    let Host {
+        settings,
+        clock,
+        ..
+    } = h.host;
     Timed {
         reply: plainly(Answer::Done),
-        clock: c.set_by(s.hold_interval, n, Millis::from(ms)),
+        clock: clock.set_by(settings.hold_interval, n, Millis::from(ms)),
     }
 }
 
 #[tactic(auto, unfolding(crate::specs::Effects::read))]
-pub(crate) fn read(s: Settings, c: Clock, k: Counter) -> Timed
-    requires { (settings_good s ≡ true) × (clock_in_range c ≡ true) }
-    ensures { Timely result (Read k) s c }
+pub(crate) fn read(h: GoodHost, k: Counter) -> Timed
+    ensures { Timely result (Read k) h.host }
 {
-    let r = host::our_reading(s, c, k);
+    let r = host::our_reading(h, k);
     Timed {
         reply: returns_time(r.time, r.clock.date),
         clock: r.clock,
@@ -75,26 +85,25 @@ pub(crate) fn read(s: Settings, c: Clock, k: Counter) -> Timed
 }
 
 #[tactic(auto, unfolding(crate::specs::Effects::second))]
-pub(crate) fn second(s: Settings, c: Clock) -> Aged
-    ensures { Aging result Second s c }
+pub(crate) fn second(h: Host) -> Aged
+    ensures { Aging result Second h }
 {
     Aged {
         reply: plainly(Answer::Done),
-        clock: c.second(),
-        work: each(s, Change::Aged),
+        clock: h.clock.second(),
+        work: each(h.settings, Change::Aged),
     }
 }
 
 #[tactic(auto, unfolding(crate::specs::Effects::self_report))]
-pub(crate) fn self_report(s: Settings, c: Clock, k: Counter) -> Aged
-    requires { (settings_good s ≡ true) × (clock_in_range c ≡ true) }
-    ensures { Aging result (SelfReport k) s c }
+pub(crate) fn self_report(h: GoodHost, k: Counter) -> Aged
+    ensures { Aging result (SelfReport k) h.host }
 {
-    let r = host::our_reading(s, c, k);
+    let r = host::our_reading(h, k);
     Aged {
         reply: plainly(Answer::Done),
         clock: r.clock,
-        work: each(s, Change::Reported(r.time)),
+        work: each(h.host.settings, Change::Reported(r.time)),
     }
 }
 

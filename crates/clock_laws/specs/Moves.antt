@@ -12,7 +12,8 @@ use Rattle.host.specs.declared.walk.Place.{Place}
 use Rattle.host.specs.declared.walk.Place.TheVariants.{Step1, Step2, Step3, Step4, Step5, LineA, LineB, LineC, LineD}
 use Rattle.host.specs.State.{link_of}
 use Rattle.host.specs.Walk.{is_open, place_of, packet_of, line_update}
-use Rattle.host.specs.CallState.{Host, CallState, our_reading}
+use Rattle.host.specs.declared.Host.{Host}
+use Rattle.host.specs.CallState.{CallState, our_reading}
 use Rattle.walk.specs.Boxes.{is_clock_host}
 use Rattle.host.specs.Guard.{guard, done}
 use Rattle.sending.specs.Send.{report_count}

@@ -23,7 +23,8 @@ use Rattle.host.specs.declared.guard.Scope.{Scope}
 use Rattle.host.specs.declared.guard.Scope.TheVariants.{Places, All, OnLink, Opening, Walking}
 use Rattle.host.specs.Settings.{link_count_of}
 use Rattle.host.specs.State.{places_per_host, first_place, host_count, own_entries, link_in_range, no_link}
-use Rattle.host.specs.CallState.{Host, CallState, entries_of, own_walk_in_range, marks_as_set, state_in_range}
+use Rattle.host.specs.declared.Host.{Host}
+use Rattle.host.specs.CallState.{CallState, entries_of, own_walk_in_range, marks_as_set, state_in_range}
 use Rattle.host.specs.Guard.{no_places, longest, own_out_of_range, guard}
 use Rattle.host.specs.code.Returned.{initialized}
 use Rattle.host.specs.code.Held.{places_missing, nowhere, is_link, names_link, full_scan, held, judged, judged_initialize}

@@ -8,18 +8,13 @@ use Rattle.net_table.specs.declared.NetTable.{NetTable}
 use Rattle.table.specs.declared.Entry.{Entry}
 use Rattle.table.specs.Forms.{every, every_from}
 use Rattle.table.specs.Entry.{as_marked, entry_in_range}
+use Rattle.host.specs.declared.Host.{Host}
 use Rattle.host.specs.declared.Settings.{Settings}
 use Rattle.host.specs.declared.Links.{Links}
 use Rattle.host.specs.declared.walk.Walk.{Walk}
 use Rattle.host.specs.Settings.{link_count_of}
 use Rattle.host.specs.State.{link_in_range, own_entries}
 use Rattle.host.specs.Walk.{walk_in_range}
-
--- HOST-3: a host by itself: settings, clock and links
-pub record Host : Type 0 where
-  pub settings : Settings
-  pub clock : Clock
-  pub links : Links
 
 -- HOST-3: a host of its parts
 abbrev pub host : Settings → Clock → Links → Host

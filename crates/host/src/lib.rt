@@ -4,7 +4,7 @@
 ghost use Rattle.std.specs.Prelude.{◌≡◌, true, not, ◌&&◌, ◌||◌, ltb, eqb, pos, ◌≤◌};
 ghost use Rattle.quantity.specs.Quantity.{millis, less_millis};
 ghost use Rattle.clock.specs.Midnight.{day_millis};
-ghost use Rattle.clock.specs.Clock.{reading, clock_in_range};
+ghost use Rattle.clock.specs.Clock.{clock_in_range};
 ghost use Rattle.host.specs.Settings.{
   from_to,
   clock_setting_off,
@@ -18,6 +18,7 @@ ghost use Rattle.host.specs.Settings.{
   settings_fit,
 };
 ghost use Rattle.host.specs.State.{first_place, host_count};
+ghost use Rattle.host.specs.CallState.{our_reading};
 
 use link_state::MAX_LINKS;
 use net_table::NetTable;
@@ -76,6 +77,22 @@ pub struct Link {
 #[derive(Clone, Copy)]
 pub struct Links {
     pub all: [Link; 8],
+}
+
+// A host by itself: settings, clock and links.
+#[derive(Clone, Copy)]
+pub struct Host {
+    pub settings: Settings,
+    pub clock: clock::Clock,
+    pub links: Links,
+}
+
+// A host that the guard let pass: its settings are good, and its clock is in range.
+#[derive(Clone, Copy)]
+pub struct GoodHost {
+    pub host: Host,
+    pub ghost good: { settings_good host.settings ≡ true },
+    pub ghost in_range: { clock_in_range host.clock ≡ true },
 }
 
 // The answer of a call and its values: a send returns the length of its message, a lookup the host id and PID of the route, a read the time and DATE, an inspection the packet's source, time, TSP and NHOSTS, a step the next place of its walk (step, line and host id).
@@ -160,11 +177,11 @@ fn found_marked(m: table::marks::Marks, found: Option<usize>) -> bool
 }
 
 // Our reading of the clock, and the clock to carry on with.
-pub fn our_reading(s: Settings, c: clock::Clock, k: clock::Counter) -> clock::Reading
-    requires { (settings_good s ≡ true) × (clock_in_range c ≡ true) }
-    ensures { result ≡ reading s.clock_tick s.hold_interval k c }
+pub fn our_reading(h: GoodHost, k: clock::Counter) -> clock::Reading
+    ensures { result ≡ our_reading k h.host }
 {
-    c.reading(s.clock_tick, s.hold_interval, k)
+    let s = h.host.settings;
+    h.host.clock.reading(s.clock_tick, s.hold_interval, k)
 }
 
 // Are the links, the numbers, the time and the date of the settings within their rules?

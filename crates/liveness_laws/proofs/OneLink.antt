@@ -31,7 +31,8 @@ use Rattle.host.specs.declared.guard.Scope.TheVariants.{OnLink}
 use Rattle.host.specs.Guard.{out_of_range, in_walk, guard, done}
 use Rattle.host.specs.Inspection.{other_layout, looped, inspect}
 use Rattle.host.specs.Inspection as inspection
-use Rattle.host.specs.CallState.{Host, CallState, host, our_reading}
+use Rattle.host.specs.declared.Host.{Host}
+use Rattle.host.specs.CallState.{CallState, host, our_reading}
 use Rattle.host.specs.Settings.{found_for, settings_fit}
 use Rattle.host.specs.State.{host_count, broadcast, link_of, no_link, with_link, fresh_link, unset}
 use Rattle.arrival.specs.declared.Flight.{Flight}

@@ -25,7 +25,8 @@ use Rattle.net_table.specs.declared.NetTable.{NetTable}
 use Rattle.host.specs.declared.Link.{Link}
 use Rattle.host.specs.Settings.{found_for}
 use Rattle.host.specs.State.{keep_alive_interval, host_count, broadcast, link_of, with_link}
-use Rattle.host.specs.CallState.{Host, host, our_reading}
+use Rattle.host.specs.declared.Host.{Host}
+use Rattle.host.specs.CallState.{host, our_reading}
 use Rattle.arrival.specs.declared.Flight.{Flight}
 use Rattle.arrival.specs.declared.Arrived.{Arrived}
 use Rattle.arrival.specs.declared.Delivery.{Delivery}

@@ -46,7 +46,8 @@ use Rattle.host.specs.State.{first_place, host_count, link_of, broadcast, own_en
 use Rattle.host.specs.Effect.{nothing, one, answers}
 use Rattle.host.specs.Reply.{plainly}
 use Rattle.host.specs.Guard.{no_places, done}
-use Rattle.host.specs.CallState.{Host, CallState, host, entries_of, our_reading}
+use Rattle.host.specs.declared.Host.{Host}
+use Rattle.host.specs.CallState.{CallState, host, entries_of, our_reading}
 use Rattle.host.specs.Walk.{is_open, place_of, packet_of, line_update}
 use Rattle.host.specs.Inspection.{inspect}
 use Rattle.arrival.specs.declared.Flight.{Flight}

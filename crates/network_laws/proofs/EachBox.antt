@@ -35,7 +35,8 @@ use Rattle.host.specs.declared.walk.Place.TheVariants.{Step1, Step2, Step3, Step
 use Rattle.host.specs.declared.guard.Scope.TheVariants.{Walking}
 use Rattle.host.specs.Settings.{found_for}
 use Rattle.host.specs.State.{first_place, host_count, broadcast, unset, fresh_link, link_of, with_link, no_link, own_entries, with_entries}
-use Rattle.host.specs.CallState.{Host, host, CallState, entries_of}
+use Rattle.host.specs.declared.Host.{Host}
+use Rattle.host.specs.CallState.{host, CallState, entries_of}
 use Rattle.host.specs.Reply.{plainly}
 use Rattle.host.specs.Walk.{is_open, place_of, packet_of, line_update, walk_in_range}
 use Rattle.host.specs.Effect.{nothing}

@@ -49,7 +49,8 @@ use Rattle.host.specs.declared.guard.Scope.TheVariants.{Places, Walking}
 use Rattle.host.specs.Walk.{is_open, place_of, packet_of, line_update}
 use Rattle.host.specs.State.{link_of, with_entries}
 use Rattle.host.specs.Effect.{nothing, each, answers}
-use Rattle.host.specs.CallState.{Host, CallState, host, entries_of, our_reading, own_walk_in_range}
+use Rattle.host.specs.declared.Host.{Host}
+use Rattle.host.specs.CallState.{CallState, host, entries_of, our_reading, own_walk_in_range}
 use Rattle.host.specs.Guard.{guard, done}
 use Rattle.host.specs.Reply.{plainly, returns_time}
 use Rattle.host.proofs.Guarded.{passed, walk_state}

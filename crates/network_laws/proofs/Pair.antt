@@ -13,7 +13,8 @@ use Rattle.answer.specs.declared.Answer.{Answer}
 use Rattle.answer.specs.Answer.{number}
 use Rattle.clock.specs.declared.Counter.{Counter}
 use Rattle.host.specs.State.{places_per_host, first_place}
-use Rattle.host.specs.CallState.{Host, CallState}
+use Rattle.host.specs.declared.Host.{Host}
+use Rattle.host.specs.CallState.{CallState}
 use Rattle.host.specs.Guard.{done}
 use Rattle.arrival.specs.Arrival.{action}
 use Rattle.calls.specs.Perform.{inspect, act, receive, perform}

@@ -43,7 +43,8 @@ use Rattle.host.specs.declared.guard.Scope.TheVariants as scope
 use Rattle.host.specs.declared.guard.Scope.TheVariants.{Walking}
 use Rattle.host.specs.Settings.{settings_good, found_for}
 use Rattle.host.specs.State.{first_place, no_link, host_count, broadcast, link_of, with_link, with_entries}
-use Rattle.host.specs.CallState.{Host, host, CallState, call_state, entries_of, state_in_range, our_reading}
+use Rattle.host.specs.declared.Host.{Host}
+use Rattle.host.specs.CallState.{host, CallState, call_state, entries_of, state_in_range, our_reading}
 use Rattle.host.specs.Inspection.{other_layout, looped, inspected, inspect}
 use Rattle.host.specs.code.Walks.{Reported}
 use Rattle.host.proofs.Inspected.{Fits, inspected_fits}

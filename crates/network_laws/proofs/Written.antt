@@ -14,7 +14,8 @@ use Rattle.host.specs.declared.walk.Walk.{Walk}
 use Rattle.host.specs.declared.Reply.{Reply}
 use Rattle.host.specs.State.{host_count, own_entries, with_entries}
 use Rattle.host.specs.Effect.{answers}
-use Rattle.host.specs.CallState.{Host, CallState, entries_of}
+use Rattle.host.specs.declared.Host.{Host}
+use Rattle.host.specs.CallState.{CallState, entries_of}
 use Rattle.host.specs.Reply.{plainly}
 use Rattle.host.proofs.Places.{Holds, entries_length, with_entries_length, with_entries_front, with_entries_after, entries_with_entries}
 use Rattle.arrival.specs.Arrival.{ends}

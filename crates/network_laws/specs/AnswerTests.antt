@@ -15,7 +15,8 @@ use Rattle.table.specs.Entry.{fresh_entry, up}
 use Rattle.host.specs.declared.walk.Walk.{Walk}
 use Rattle.host.specs.Settings.{found_for}
 use Rattle.host.specs.State.{broadcast, link_of}
-use Rattle.host.specs.CallState.{Host, CallState, our_reading}
+use Rattle.host.specs.declared.Host.{Host}
+use Rattle.host.specs.CallState.{CallState, our_reading}
 use Rattle.host.specs.Walk.{is_open, packet_of}
 
 -- REPLY-1: an answer and its condition

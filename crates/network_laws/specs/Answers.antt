@@ -8,7 +8,8 @@ use Rattle.wire.specs.Packet.{hello_of, fields, packet_length}
 use Rattle.net_table.specs.declared.NetTable.{NetTable}
 use Rattle.host.specs.Settings.{settings_fit, found_for}
 use Rattle.host.specs.State.{link_of}
-use Rattle.host.specs.CallState.{Host, CallState, entries_of}
+use Rattle.host.specs.declared.Host.{Host}
+use Rattle.host.specs.CallState.{CallState, entries_of}
 use Rattle.host.specs.Guard.{out_of_range, in_walk}
 use Rattle.host.specs.Walk.{is_open}
 use Rattle.sending.specs.Send.{report_count}

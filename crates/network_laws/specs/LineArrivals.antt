@@ -17,7 +17,7 @@ use Rattle.table.specs.Forms.{Stage, on, end}
 use Rattle.table.specs.Update.{lines, date_taken}
 use Rattle.table.specs.Sweep.{Swept, sweep}
 use Rattle.table.specs.Runs.{update_at}
-use Rattle.host.specs.CallState.{Host}
+use Rattle.host.specs.declared.Host.{Host}
 use Rattle.arrival.specs.declared.Arrived.{Arrived}
 use Rattle.arrival.specs.declared.Delivery.{Delivery}
 use Rattle.arrival.specs.declared.Delivery.TheVariants.{Inspect, Act, Receive}

@@ -14,7 +14,8 @@ use Rattle.table.specs.Sweep.{Swept}
 use Rattle.host.specs.declared.Effect.{Effect}
 use Rattle.host.specs.declared.walk.Walk.{Walk}
 use Rattle.host.specs.State.{link_of, with_entries}
-use Rattle.host.specs.CallState.{Host, CallState, entries_of}
+use Rattle.host.specs.declared.Host.{Host}
+use Rattle.host.specs.CallState.{CallState, entries_of}
 use Rattle.host.specs.Guard.{guard, done}
 use Rattle.host.specs.Effect.{each, answers}
 use Rattle.host.specs.Reply.{plainly, returns_time}

@@ -15,7 +15,8 @@ use Rattle.host.specs.declared.Effect.{Effect}
 use Rattle.host.specs.declared.walk.Walk.{Walk}
 use Rattle.host.specs.declared.walk.Place.{Place}
 use Rattle.host.specs.declared.walk.Place.TheVariants.{Step1, Step2, Step3, Step4, Step5, LineA, LineB, LineC, LineD}
-use Rattle.host.specs.CallState.{Host, host}
+use Rattle.host.specs.declared.Host.{Host}
+use Rattle.host.specs.CallState.{host}
 use Rattle.host.specs.Walk.{is_open, place_of, packet_of, line_update}
 use Rattle.host.specs.Effect.{nothing, answers}
 use Rattle.host.specs.Reply.{plainly}

@@ -7,7 +7,8 @@ use Rattle.clock.specs.declared.Counter.{Counter}
 use Rattle.host.specs.declared.Link.{Link}
 use Rattle.host.specs.State.{link_of, with_link}
 use Rattle.host.specs.Walk.{no_walk}
-use Rattle.host.specs.CallState.{Host, CallState, call_state, our_reading}
+use Rattle.host.specs.declared.Host.{Host}
+use Rattle.host.specs.CallState.{CallState, call_state, our_reading}
 use Rattle.arrival.specs.declared.Delivery.{Delivery}
 use Rattle.arrival.specs.declared.Delivery.TheVariants.{Inspect, Act, Receive}
 use Rattle.arrival.specs.Arrival.{on_link}

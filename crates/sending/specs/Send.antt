@@ -12,7 +12,8 @@ use Rattle.table.specs.Entry.{advertised}
 use Rattle.host.specs.declared.Settings.{Settings}
 use Rattle.host.specs.declared.Link.{Link}
 use Rattle.host.specs.State.{host_count, link_of, with_link}
-use Rattle.host.specs.CallState.{Host, our_reading}
+use Rattle.host.specs.declared.Host.{Host}
+use Rattle.host.specs.CallState.{our_reading}
 use Rattle.host.specs.Reply.{plainly, returns_length}
 use Rattle.sending.specs.declared.Sending.{Sending}
 use Rattle.sending.specs.declared.Message.{Message}

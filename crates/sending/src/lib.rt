@@ -4,10 +4,7 @@
 ghost use Rattle.std.specs.Prelude.{◌≡◌, true};
 ghost use Rattle.clock.specs.Midnight.{day_millis};
 ghost use Rattle.table.specs.Entry.{up_to};
-ghost use Rattle.clock.specs.Clock.{clock_in_range};
-ghost use Rattle.host.specs.Settings.{settings_good};
 ghost use Rattle.host.specs.State.{link_of};
-ghost use Rattle.host.specs.CallState.{host};
 ghost use Rattle.sending.specs.Message.{table_goes, sent_tsp, link_sent, packet_sent};
 ghost use Rattle.sending.specs.Send.{unsent, report_count, sends, send_in};
 ghost use Rattle.sending.specs.code.Finish.{Finishable, finished};
@@ -18,7 +15,7 @@ use clock::{Clock, Counter};
 use host::link_number::LinkNumber;
 use host::link_state::{link_of, with_link};
 use host::replies::{plainly, returns_length};
-use host::{Link, Links, Reply, Settings, host_count};
+use host::{GoodHost, Host, Link, Links, Reply, Settings, host_count};
 use quantity::{Millis, Word};
 use table::entries::Reports;
 use wire::{Address, Packet};
@@ -41,13 +38,13 @@ pub struct Sending {
 }
 
 // No message: nothing changes.
-fn unsent(a: Answer, s: Settings, c: Clock, l: Links) -> Sending
-    ensures { result ≡ unsent a (host s c l) }
+fn unsent(a: Answer, h: Host) -> Sending
+    ensures { result ≡ unsent a h }
 {
     Sending {
         reply: plainly(a),
-        clock: c,
-        links: l,
+        clock: h.clock,
+        links: h.links,
         work: Reports {
             first: 0,
             end: 0,
@@ -110,24 +107,15 @@ fn packet_sent(s: Settings, x: Link, time: Millis, date: Date, count: u8) -> Pac
 }
 
 // A send of n reports on a link in this state.
-fn sends(
-    s: Settings,
-    c: Clock,
-    l: Links,
-    link: LinkNumber,
-    k: Counter,
-    x: Link,
-    count: u8,
-) -> Sending
-    requires s_value { (settings_good s ≡ true) × (clock_in_range c ≡ true) }
-    requires x_value { (x ≡ link_of l link.number) × (count ≡ report_count s x) }
-    ensures { result ≡ sends link.number k (host s c l) }
+fn sends(h: GoodHost, link: LinkNumber, k: Counter, x: Link, count: u8) -> Sending
+    requires { (x ≡ link_of h.host.links link.number) × (count ≡ report_count h.host.settings x) }
+    ensures { result ≡ sends link.number k h.host }
 {
-    let r = host::our_reading(s, c, k);
+    let r = host::our_reading(h, k);
     Sending {
         reply: returns_length(wire::length(count)),
         clock: r.clock,
-        links: with_link(l, link, link_sent(x)),
+        links: with_link(h.host.links, link, link_sent(x)),
         work: Reports {
             first: 0,
             end: count as usize,
@@ -135,29 +123,21 @@ fn sends(
         },
         message: Some(Message {
             destination: x.neighbor,
-            packet: packet_sent(s, x, r.time, r.clock.date, count),
+            packet: packet_sent(h.host.settings, x, r.time, r.clock.date, count),
         }),
     }
 }
 
 // A send into a buffer of n octets.
-pub fn send_in(
-    s: Settings,
-    c: Clock,
-    l: Links,
-    link: LinkNumber,
-    k: Counter,
-    room: usize,
-) -> Sending
-    requires { (settings_good s ≡ true) × (clock_in_range c ≡ true) }
-    ensures { result ≡ send_in link.number k room (host s c l) }
+pub fn send_in(h: GoodHost, link: LinkNumber, k: Counter, room: usize) -> Sending
+    ensures { result ≡ send_in link.number k room h.host }
 {
-    let x = link_of(l, link);
-    let count = report_count(s, x);
+    let x = link_of(h.host.links, link);
+    let count = report_count(h.host.settings, x);
     if room < wire::length(count) {
-        return unsent(Answer::ShortBuffer, s, c, l);
+        return unsent(Answer::ShortBuffer, h.host);
     }
-    sends(s, c, l, link, k, x, count)
+    sends(h, link, k, x, count)
 }
 
 // The message completed around its reports, if one is sent.

@@ -37,7 +37,8 @@ use Rattle.host.specs.declared.walk.Place.TheVariants.{Step1, Step2, Step3, Step
 use Rattle.host.specs.Settings.{found_for}
 use Rattle.host.specs.State.{host_count, broadcast, link_of}
 use Rattle.host.specs.declared.Links.{Links}
-use Rattle.host.specs.CallState.{Host, host}
+use Rattle.host.specs.declared.Host.{Host}
+use Rattle.host.specs.CallState.{host}
 use Rattle.host.specs.Walk.{is_open, no_walk, place_of, line_update, reading_in_range, id_in_range, walk_fields_at}
 use Rattle.host.specs.Effect.{nothing}
 use Rattle.arrival.specs.declared.Flight.{Flight}

@@ -44,7 +44,8 @@ use Rattle.host.specs.declared.Settings.{Settings}
 use Rattle.host.specs.declared.walk.Walk.{Walk}
 use Rattle.host.specs.Settings.{found_for}
 use Rattle.host.specs.State.{host_count, broadcast, link_of, with_link}
-use Rattle.host.specs.CallState.{Host, host, our_reading}
+use Rattle.host.specs.declared.Host.{Host}
+use Rattle.host.specs.CallState.{host, our_reading}
 use Rattle.host.specs.Reply.{plainly}
 use Rattle.host.specs.Walk.{place_of, walk_update, line_update}
 use Rattle.host.specs.Effect.{nothing}

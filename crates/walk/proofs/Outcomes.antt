@@ -14,7 +14,7 @@ use Rattle.table.specs.Update.{line_a, line_b, line_c}
 use Rattle.table.proofs.Stages.{goes_on, ends}
 use Rattle.host.specs.declared.walk.Walk.{Walk}
 use Rattle.host.specs.State.{host_count, broadcast}
-use Rattle.host.specs.CallState.{Host}
+use Rattle.host.specs.declared.Host.{Host}
 use Rattle.host.specs.Walk.{line_update}
 use Rattle.host.specs.Effect.{nothing}
 use Rattle.arrival.specs.declared.Flight.{Flight}

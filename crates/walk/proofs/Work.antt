@@ -23,7 +23,8 @@ use Rattle.host.specs.declared.walk.Place.{Place}
 use Rattle.host.specs.declared.walk.Place.TheVariants.{Step1, Step2, Step3, Step4, Step5, LineA, LineB, LineC, LineD}
 use Rattle.host.specs.Settings.{settings_good, found_for}
 use Rattle.host.specs.State.{host_count, broadcast, link_of}
-use Rattle.host.specs.CallState.{Host, host}
+use Rattle.host.specs.declared.Host.{Host}
+use Rattle.host.specs.CallState.{host}
 use Rattle.host.specs.Inspection.{inspect}
 use Rattle.host.specs.Walk.{is_open, place_of, line_place, packet_of, line_update, reading_in_range, id_in_range, walk_fields_at, packet_fits, walk_in_range}
 use Rattle.host.specs.Effect.{nothing}

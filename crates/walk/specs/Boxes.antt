@@ -15,7 +15,8 @@ use Rattle.host.specs.declared.walk.Place.TheVariants.{Step1, Step2, Step3, Step
 use Rattle.net_table.specs.declared.NetTable.{NetTable}
 use Rattle.host.specs.Settings.{found_for}
 use Rattle.host.specs.State.{broadcast, link_of}
-use Rattle.host.specs.CallState.{Host, our_reading}
+use Rattle.host.specs.declared.Host.{Host}
+use Rattle.host.specs.CallState.{our_reading}
 use Rattle.host.specs.Reply.{plainly}
 use Rattle.host.specs.Inspection.{inspect}
 use Rattle.host.specs.Walk.{is_open, place_of, packet_of}

@@ -2,4 +2,3 @@ pub mod WalkPlaces
 pub mod LineBoxes
 pub mod Boxes
 pub mod Opening
-pub mod code

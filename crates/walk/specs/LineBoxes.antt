@@ -11,7 +11,8 @@ use Rattle.table.specs.Update.{line_a, line_b, line_c, line_d}
 use Rattle.host.specs.declared.Effect.{Effect}
 use Rattle.host.specs.declared.walk.Walk.{Walk}
 use Rattle.host.specs.State.{host_count}
-use Rattle.host.specs.CallState.{Host, host}
+use Rattle.host.specs.declared.Host.{Host}
+use Rattle.host.specs.CallState.{host}
 use Rattle.host.specs.Walk.{line_update}
 use Rattle.host.specs.Effect.{nothing, one}
 use Rattle.walk.specs.WalkPlaces.{at_line, onward, ended}

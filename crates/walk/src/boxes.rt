@@ -1,31 +1,27 @@
 // Steps 1 to 5, a box each, and the box of a place.
-ghost use Rattle.std.specs.Prelude.{◌≡◌, true, ◌≤◌};
+ghost use Rattle.std.specs.Prelude.{◌≡◌, true};
 ghost use Rattle.clock.specs.Midnight.{day_millis};
-ghost use Rattle.clock.specs.Clock.{clock_in_range};
 ghost use Rattle.table.specs.Entry.{up_to};
 ghost use Rattle.arrival.specs.Steps.{step3};
 ghost use Rattle.wire.specs.code.Ranges.{Four};
-ghost use Rattle.host.specs.Settings.{settings_good};
 ghost use Rattle.host.specs.State.{has_place};
-ghost use Rattle.host.specs.CallState.{host};
 ghost use Rattle.host.specs.Walk.{reading_in_range, place_of, walk_fields_at, packet_fits};
 ghost use Rattle.host.specs.Inspection.{inspect};
 ghost use Rattle.host.specs.code.Returned.{RowsBelow};
 ghost use Rattle.host.specs.code.Walks.{Reported};
 ghost use Rattle.walk.specs.Boxes.{raised, to_neighbor, box1, box2, box3, box4, box5, box_at, box_of};
 
-use super::held::{at, ended, holding, holding_reading, in_flight, onward, storing};
+use super::held::{OnLink, at, ended, holding, holding_reading, in_flight, onward, storing};
 use super::lines::{box_a, box_b, box_c, box_d};
 use answer::Answer;
 use arrival::Flight;
 use arrival::steps::{delay_of, offset_of, step4, tsp_of};
-use clock::{Clock, Counter};
+use clock::Counter;
 use host::effects::{answers, nothing};
-use host::link_number::LinkNumber;
 use host::link_state::{KEEP_ALIVE_INTERVAL, broadcast, link_of};
 use host::replies::plainly;
 use host::walk::{Place, Walk};
-use host::{Effect, Link, Links, Settings};
+use host::{Effect, GoodHost, Host, Link};
 use net_table::NetTable;
 use quantity::{Millis, Word};
 use std::ops::ControlFlow;
@@ -33,27 +29,30 @@ use table::Entry;
 use wire::Packet;
 
 #[tactic(auto, unfolding(crate::specs::Boxes::box1))]
-fn box1(s: Settings, c: Clock, l: Links, w: Walk, k: Counter) -> Effect
-    requires { (settings_good s ≡ true) × (clock_in_range c ≡ true) }
-    ensures { result ≡ box1 k (host s c l) w }
+fn box1(h: GoodHost, w: Walk, k: Counter) -> Effect
+    ensures { result ≡ box1 k h.host w }
 {
-    let r = host::our_reading(s, c, k);
+    let r = host::our_reading(h, k);
     onward(
         at(2, 0, 0, holding_reading(k.used(), r.time, w)),
         r.clock,
-        l,
+        h.host.links,
         nothing(),
     )
 }
 
 #[tactic(auto, unfolding(crate::specs::Boxes::box2, arrival::specs::Steps::step2))]
-fn box2(s: Settings, c: Clock, l: Links, w: Walk) -> Effect
-    requires { (1 ≤ w.link) × (w.link ≤ 8) }
-    ensures { result ≡ box2 (host s c l) w }
+fn box2(h: Host, w: OnLink) -> Effect
+    ensures { result ≡ box2 h w.walk }
 {
-    let mut f = in_flight(l, w);
+    let mut f = in_flight(h.links, w);
     f.link.keep_alive = KEEP_ALIVE_INTERVAL;
-    onward(at(3, 0, 0, w), c, storing(f, w, l), nothing())
+    onward(
+        at(3, 0, 0, w.walk),
+        h.clock,
+        storing(f, w, h.links),
+        nothing(),
+    )
 }
 
 // TSP, DELAY and OFFSET.
@@ -74,33 +73,39 @@ fn measured(broadcast: bool, p: Packet, f: Flight) -> Flight
 }
 
 #[tactic(auto, unfolding(crate::specs::Boxes::box3))]
-fn box3(s: Settings, c: Clock, l: Links, w: Walk, p: Packet) -> Effect
-    requires le_link { (1 ≤ w.link) × (w.link ≤ 8) }
+fn box3(h: Host, w: OnLink, p: Packet) -> Effect
     requires four { Four p.time.0 }
-    requires w_value { reading_in_range w ≡ true }
-    ensures { result ≡ box3 p (host s c l) w }
+    requires w_value { reading_in_range w.walk ≡ true }
+    ensures { result ≡ box3 p h w.walk }
 {
-    let number = w.link as usize;
-    let f = measured(broadcast(s, LinkNumber { number }), p, in_flight(l, w));
-    onward(at(4, 0, 0, holding(f, w)), c, storing(f, w, l), nothing())
+    let f = measured(broadcast(h.settings, w.link()), p, in_flight(h.links, w));
+    onward(
+        at(4, 0, 0, holding(f, w.walk)),
+        h.clock,
+        storing(f, w, h.links),
+        nothing(),
+    )
 }
 
-fn box4(s: Settings, c: Clock, l: Links, w: Walk, p: Packet) -> Effect
-    requires { (1 ≤ w.link) × (w.link ≤ 8) }
-    ensures { result ≡ box4 p (host s c l) w }
+fn box4(h: Host, w: OnLink, p: Packet) -> Effect
+    ensures { result ≡ box4 p h w.walk }
 {
-    let number = w.link as usize;
     match step4(
-        broadcast(s, LinkNumber { number }),
-        c.hold,
+        broadcast(h.settings, w.link()),
+        h.clock.hold,
         p,
-        in_flight(l, w),
+        in_flight(h.links, w),
     ) {
-        ControlFlow::Break(f) => ended(Answer::DelayNotValid, c, storing(f, w, l), nothing()),
+        ControlFlow::Break(f) => ended(
+            Answer::DelayNotValid,
+            h.clock,
+            storing(f, w, h.links),
+            nothing(),
+        ),
         ControlFlow::Continue(f) => onward(
-            at(5, 0, 0, holding(f, w)),
-            c,
-            storing(f, w, l),
+            at(5, 0, 0, holding(f, w.walk)),
+            h.clock,
+            storing(f, w, h.links),
             nothing(),
         ),
     }
@@ -115,79 +120,70 @@ fn raised(w: Walk) -> Walk
     }
 }
 
-fn to_neighbor(s: Settings, c: Clock, l: Links, w: Walk, found: Option<usize>) -> Effect
+fn to_neighbor(h: Host, w: Walk, found: Option<usize>) -> Effect
     requires { has_place found ≡ true }
-    ensures { result ≡ to_neighbor (host s c l) w found }
+    ensures { result ≡ to_neighbor h w found }
 {
     match found {
-        None => ended(Answer::NoHost, c, l, nothing()),
-        Some(id) => onward(at(5, 1, id as u8, w), c, l, nothing()),
+        None => ended(Answer::NoHost, h.clock, h.links, nothing()),
+        Some(id) => onward(at(5, 1, id as u8, w), h.clock, h.links, nothing()),
     }
 }
 
 #[tactic(auto, unfolding(crate::specs::Boxes::box5))]
-fn box5(s: Settings, t: NetTable, c: Clock, l: Links, w: Walk, p: Packet) -> Effect
-    requires le_link { (1 ≤ w.link) × (w.link ≤ 8) }
-    requires s_value { (settings_good s ≡ true) × RowsBelow t s }
-    ensures { result ≡ box5 p t (host s c l) w }
+fn box5(h: GoodHost, t: NetTable, w: OnLink, p: Packet) -> Effect
+    requires rows { RowsBelow t h.host.settings }
+    ensures { result ≡ box5 p t h.host w.walk }
 {
-    let number = w.link as usize;
+    let Host {
+        settings,
+        clock,
+        links,
+    } = h.host;
     if p.nhosts == 0 {
-        let found = host::found_for(t, s, link_of(l, LinkNumber { number }).neighbor);
-        return to_neighbor(s, c, l, raised(w), found);
+        let found = host::found_for(t, settings, link_of(links, w.link()).neighbor);
+        return to_neighbor(h.host, raised(w.walk), found);
     }
-    onward(at(5, 1, 0, raised(w)), c, l, nothing())
+    onward(at(5, 1, 0, raised(w.walk)), clock, links, nothing())
 }
 
 // The box of a place: a match, since each box takes other parts of the walk.
 fn box_at(
-    s: Settings,
+    h: GoodHost,
     t: NetTable,
-    c: Clock,
-    l: Links,
-    w: Walk,
+    w: OnLink,
     p: Packet,
     packet: &[u8],
     e: Entry,
     k: Counter,
 ) -> Effect
-    requires le_link { (1 ≤ w.link) × (w.link ≤ 8) }
-    requires s_value { (settings_good s ≡ true) × RowsBelow t s × (clock_in_range c ≡ true) }
+    requires rows { RowsBelow t h.host.settings }
     requires four { Four p.time.0 }
-    requires reported { Reported s p packet.now }
-    requires packet_value { walk_fields_at (place_of w) s w p packet.now ≡ true }
-    ensures { result ≡ box_at (place_of w) k p packet.now t (host s c l) w e }
+    requires reported { Reported h.host.settings p packet.now }
+    requires packet_value { walk_fields_at (place_of w.walk) h.host.settings w.walk p packet.now ≡ true }
+    ensures { result ≡ box_at (place_of w.walk) k p packet.now t h.host w.walk e }
 {
-    match host::walk::place_of(w) {
-        None => answers(c, l, w, plainly(Answer::OutOfRange)),
-        Some(Place::Step1) => box1(s, c, l, w, k),
-        Some(Place::Step2) => box2(s, c, l, w),
-        Some(Place::Step3) => box3(s, c, l, w, p),
-        Some(Place::Step4) => box4(s, c, l, w, p),
-        Some(Place::Step5) => box5(s, t, c, l, w, p),
-        Some(Place::LineA) => box_a(s, c, l, w, p, packet, e),
-        Some(Place::LineB) => box_b(s, c, l, w, p, packet, e),
-        Some(Place::LineC) => box_c(s, c, l, w, p, packet, e),
-        Some(Place::LineD) => box_d(s, c, l, w, p, packet),
+    let host = h.host;
+    match host::walk::place_of(w.walk) {
+        None => answers(host.clock, host.links, w.walk, plainly(Answer::OutOfRange)),
+        Some(Place::Step1) => box1(h, w.walk, k),
+        Some(Place::Step2) => box2(host, w),
+        Some(Place::Step3) => box3(host, w, p),
+        Some(Place::Step4) => box4(host, w, p),
+        Some(Place::Step5) => box5(h, t, w, p),
+        Some(Place::LineA) => box_a(host, w.walk, p, packet, e),
+        Some(Place::LineB) => box_b(host, w.walk, p, packet, e),
+        Some(Place::LineC) => box_c(host, w.walk, p, packet, e),
+        Some(Place::LineD) => box_d(host, w.walk, p, packet),
     }
 }
 
 // The box of the walk's place. The guard tested the packet, so its fields are read without a test.
-pub fn box_of(
-    s: Settings,
-    t: NetTable,
-    c: Clock,
-    l: Links,
-    w: Walk,
-    packet: &[u8],
-    e: Entry,
-    k: Counter,
-) -> Effect
-    requires le_link { (1 ≤ w.link) × (w.link ≤ 8) }
-    requires s_value { (settings_good s ≡ true) × RowsBelow t s × (clock_in_range c ≡ true) }
-    requires packet_value { packet_fits s w packet.now (inspect s w.link packet.now) ≡ true }
-    ensures { result ≡ box_of k packet.now t (host s c l) w e (inspect s w.link packet.now) }
+pub fn box_of(h: GoodHost, t: NetTable, w: OnLink, packet: &[u8], e: Entry, k: Counter) -> Effect
+    requires rows { RowsBelow t h.host.settings }
+    requires packet_value { packet_fits h.host.settings w.walk packet.now (inspect h.host.settings w.walk.link packet.now) ≡ true }
+    ensures { result ≡ box_of k packet.now t h.host w.walk e (inspect h.host.settings w.walk.link packet.now) }
 {
     let p = wire::fields(packet);
-    box_at(s, t, c, l, w, p, packet, e, k)
+    box_at(h, t, w, p, packet, e, k)
 }

@@ -14,29 +14,40 @@ use host::{Effect, Links};
 use quantity::{Count, Millis, Word};
 use table::entries::Changes;
 
-// C programs lay out a walk, so the functions of a walk ask for the range of its link.
+// A walk whose link is one that a host may have. C programs lay out the walk itself, so its link is a number.
+#[derive(Clone, Copy)]
+pub struct OnLink {
+    pub walk: Walk,
+    pub ghost from_one: { 1 ≤ walk.link },
+    pub ghost to_eight: { walk.link ≤ 8 },
+}
+
+impl OnLink {
+    pub fn link(self) -> LinkNumber
+        ensures { result.number ≡ self.walk.link }
+    {
+        let number = self.walk.link as usize;
+        LinkNumber { number }
+    }
+}
 
 // The arrival in flight.
-pub fn in_flight(l: Links, w: Walk) -> Flight
-    requires { (1 ≤ w.link) × (w.link ≤ 8) }
-    ensures { result ≡ in_flight l w }
+pub fn in_flight(l: Links, w: OnLink) -> Flight
+    ensures { result ≡ in_flight l w.walk }
 {
-    let number = w.link as usize;
     Flight {
-        reading: w.reading,
-        link: link_of(l, LinkNumber { number }),
-        delay: Millis::from(w.delay),
-        offset: w.offset,
+        reading: w.walk.reading,
+        link: link_of(l, w.link()),
+        delay: Millis::from(w.walk.delay),
+        offset: w.walk.offset,
     }
 }
 
 // The links with the one that a step changed.
-pub fn storing(f: Flight, w: Walk, l: Links) -> Links
-    requires { (1 ≤ w.link) × (w.link ≤ 8) }
-    ensures { result ≡ storing f w l }
+pub fn storing(f: Flight, w: OnLink, l: Links) -> Links
+    ensures { result ≡ storing f w.walk l }
 {
-    let number = w.link as usize;
-    with_link(l, LinkNumber { number }, f.link)
+    with_link(l, w.link(), f.link)
 }
 
 // The count that was used, and our reading.

@@ -1,20 +1,21 @@
 // A walk: an arrival that is carried out one box at a time, the five steps of section 3.3.3 and lines (a) to (d) of each id.
 #![tactic(auto)]
 
-ghost use Rattle.std.specs.Prelude.{◌≡◌, ◌≤◌, length};
-ghost use Rattle.host.specs.CallState.{host};
+ghost use Rattle.std.specs.Prelude.{◌≡◌, true, ◌≤◌, length};
 ghost use Rattle.host.specs.Guard.{longest};
+ghost use Rattle.host.specs.Walk.{walk_in_range};
+ghost use Rattle.host.specs.code.Returned.{RowsBelow};
 ghost use Rattle.walk.specs.Boxes.{at_hand, step};
 ghost use Rattle.walk.specs.Opening.{opened_on, opening, copied};
-ghost use Rattle.walk.specs.code.Plan.{Steady};
 
 use answer::Answer;
-use clock::{Clock, Counter};
+use clock::Counter;
+use held::OnLink;
 use host::effects::answers;
 use host::link_number::LinkNumber;
 use host::replies::{plainly, returns_place};
 use host::walk::Walk;
-use host::{Effect, Links, Reply, Settings, inspection};
+use host::{Effect, GoodHost, Reply, Settings, inspection};
 use net_table::NetTable;
 use quantity::{Count, Millis, Word};
 use table::Entry;
@@ -88,22 +89,14 @@ pub fn at_hand(w: Walk) -> Option<usize>
 
 // The box of a walk's place; 17 where no walk is open.
 #[tactic(auto, unfolding(crate::specs::Boxes::step))]
-pub fn step(
-    s: Settings,
-    t: NetTable,
-    c: Clock,
-    l: Links,
-    w: Walk,
-    copy: &[u8],
-    e: Entry,
-    k: Counter,
-) -> Effect
-    requires { Steady s t c w copy.now }
-    ensures { result ≡ step k t (host s c l) w copy.now e }
+pub fn step(h: GoodHost, t: NetTable, w: Walk, copy: &[u8], e: Entry, k: Counter) -> Effect
+    requires rows { RowsBelow t h.host.settings }
+    requires walk { walk_in_range h.host.settings w copy.now ≡ true }
+    ensures { result ≡ step k t h.host w copy.now e }
 {
     if !host::walk::is_open(w) {
-        return answers(c, l, w, plainly(Answer::NoWalk));
+        return answers(h.host.clock, h.host.links, w, plainly(Answer::NoWalk));
     }
     let n = w.length as usize;
-    boxes::box_of(s, t, c, l, w, &copy[..n], e, k)
+    boxes::box_of(h, t, OnLink { walk: w }, &copy[..n], e, k)
 }

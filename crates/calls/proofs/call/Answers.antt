@@ -23,19 +23,19 @@ entry_of-e-requires c =
 pub effect-p-requires : goal.effect-p-requires
 effect-p-requires c =
     let on = passes (ask c.args.request) _ c.scope_of-a.ensures c.guard-g.ensures c.refuses.ensures c.if-refuses.false in
-    (ready (scope_of c.args.request) _ on, rows _ c.args.request on, walk_in_range_lem _ c.args.request on)
+    rw c.host_of-h.ensures (ready (scope_of c.args.request) _ on, rows _ c.args.request on, walk_in_range_lem _ c.args.request on)
 
 pub placed-w-requires : goal.placed-w-requires
 placed-w-requires c =
     let on = passes (ask c.args.request) _ c.scope_of-a.ensures c.guard-g.ensures c.refuses.ensures c.if-refuses.false in
-    rw (c.effect-p.ensures) (performed _ c.args.request on _ (rw c.sought-z.ensures at c.entry_of-e.ensures)).ids
+    rw (c.effect-p.ensures, c.host_of-h.ensures) (performed _ c.args.request on _ (rw c.sought-z.ensures at c.entry_of-e.ensures)).ids
 
 pub change_all-requires : goal.change_all-requires
 change_all-requires c =
     let on = passes (ask c.args.request) _ c.scope_of-a.ensures c.guard-g.ensures c.refuses.ensures c.if-refuses.false in
-    rw (c.placed-w.ensures, c.effect-p.ensures) (performed _ c.args.request on _ (rw c.sought-z.ensures at c.entry_of-e.ensures)).places
+    rw (c.placed-w.ensures, c.effect-p.ensures, c.host_of-h.ensures) (performed _ c.args.request on _ (rw c.sought-z.ensures at c.entry_of-e.ensures)).places
 
 pub returns : goal.returns
 returns c =
     let on = passes (ask c.args.request) _ c.scope_of-a.ensures c.guard-g.ensures c.refuses.ensures c.if-refuses.false in
-    rw (c.change_all.ensures, c.placed-w.ensures, c.effect-p.ensures) (performed _ c.args.request on _ (rw c.sought-z.ensures at c.entry_of-e.ensures)).left
+    rw (c.change_all.ensures, c.placed-w.ensures, c.effect-p.ensures, c.host_of-h.ensures) (performed _ c.args.request on _ (rw c.sought-z.ensures at c.entry_of-e.ensures)).left

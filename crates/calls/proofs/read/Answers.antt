@@ -2,7 +2,7 @@
 use mathlib.Core.Path.{refl}
 use Rattle.calls.specs.declared.Request.TheVariants.{Read}
 use Rattle.calls.specs.Perform.{ask}
-use Rattle.calls.proofs.HostAfter.{clock_good, after_timed, read_quiet}
+use Rattle.calls.proofs.HostAfter.{host_good, after_timed, read_quiet}
 use Rattle.calls.proofs.Guarding.{passes, refuses}
 use Rattle.calls.proofs.read.Goals as goal
 
@@ -10,12 +10,12 @@ pub returns-then-refuses : goal.returns-then-refuses
 returns-then-refuses c =
     refuses (ask (Read c.args.counter)) _ refl c.guard-g.ensures c.refuses.ensures c.if-refuses.true c.plainly.ensures
 
-pub read-p-requires : goal.read-p-requires
-read-p-requires c =
+pub invariant_of-h : goal.invariant_of-h
+invariant_of-h c =
     let on = passes (ask (Read c.args.counter)) _ refl c.guard-g.ensures c.refuses.ensures c.if-refuses.false in
-    clock_good _ on
+    rw c.host_of.ensures (host_good _ on)
 
 pub returns : goal.returns
 returns c =
     let on = passes (ask (Read c.args.counter)) _ refl c.guard-g.ensures c.refuses.ensures c.if-refuses.false in
-    after_timed _ (Read c.args.counter) on (read_quiet c.args.counter) _ c.read-p.ensures
+    after_timed _ (Read c.args.counter) on (read_quiet c.args.counter) _ (rw c.host_of.ensures at c.read-p.ensures)

@@ -13,14 +13,14 @@ returns-then-refuses c =
 pub placed-w-requires : goal.placed-w-requires
 placed-w-requires c =
     let on = passes (ask Second) _ refl c.guard-g.ensures c.refuses.ensures c.if-refuses.false in
-    (after_aged _ Second on second_still _ c.second-p.ensures).ids
+    (after_aged _ Second on second_still _ (rw c.host_of.ensures at c.second-p.ensures)).ids
 
 pub change_all-requires : goal.change_all-requires
 change_all-requires c =
     let on = passes (ask Second) _ refl c.guard-g.ensures c.refuses.ensures c.if-refuses.false in
-    rw (c.placed-w.ensures) (after_aged _ Second on second_still _ c.second-p.ensures).places
+    rw (c.placed-w.ensures) (after_aged _ Second on second_still _ (rw c.host_of.ensures at c.second-p.ensures)).places
 
 pub returns : goal.returns
 returns c =
     let on = passes (ask Second) _ refl c.guard-g.ensures c.refuses.ensures c.if-refuses.false in
-    rw (c.change_all.ensures, c.placed-w.ensures) (after_aged _ Second on second_still _ c.second-p.ensures).left
+    rw (c.change_all.ensures, c.placed-w.ensures) (after_aged _ Second on second_still _ (rw c.host_of.ensures at c.second-p.ensures)).left

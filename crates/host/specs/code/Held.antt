@@ -11,7 +11,7 @@ use Rattle.table.specs.declared.entries.Scan.{Scan}
 use Rattle.table.specs.Forms.{every}
 use Rattle.table.specs.Marks.{no_marks}
 use Rattle.host.specs.declared.Settings.{Settings}
-use Rattle.host.specs.CallState.{Host}
+use Rattle.host.specs.declared.Host.{Host}
 use Rattle.host.specs.declared.guard.Scope.{Scope}
 use Rattle.host.specs.declared.guard.Scope.TheVariants.{Places, All, OnLink, Opening, Walking}
 use Rattle.host.specs.declared.Links.{Links}

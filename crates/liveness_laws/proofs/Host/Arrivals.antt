@@ -38,7 +38,8 @@ use Rattle.host.specs.declared.Links.{Links}
 use Rattle.host.specs.declared.walk.Walk.{Walk}
 use Rattle.host.specs.declared.guard.Scope.TheVariants.{OnLink}
 use Rattle.host.specs.Guard.{done}
-use Rattle.host.specs.CallState.{Host, CallState, host, entries_of}
+use Rattle.host.specs.declared.Host.{Host}
+use Rattle.host.specs.CallState.{CallState, host, entries_of}
 use Rattle.host.specs.Settings.{found_for, link_count_of}
 use Rattle.host.specs.State.{own_entries, broadcast, link_of, with_link, no_link}
 use Rattle.host.proofs.Guarded.{passed, holds, counted}

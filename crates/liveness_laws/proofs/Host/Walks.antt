@@ -47,7 +47,8 @@ use Rattle.host.specs.declared.guard.Scope.TheVariants.{Walking}
 use Rattle.host.specs.Guard.{done}
 use Rattle.host.specs.Settings.{found_for, link_count_of}
 use Rattle.host.specs.State.{host_count, own_entries, broadcast, link_of, with_link, fresh_link, unset, no_link}
-use Rattle.host.specs.CallState.{Host, CallState, host, entries_of, our_reading}
+use Rattle.host.specs.declared.Host.{Host}
+use Rattle.host.specs.CallState.{CallState, host, entries_of, our_reading}
 use Rattle.host.specs.Reply.{plainly}
 use Rattle.host.specs.Walk.{is_open, no_walk, step_place, place_of, packet_of, line_update, walk_fields_at, packet_fits}
 use Rattle.host.specs.Effect.{nothing, answers}

@@ -42,7 +42,8 @@ use Rattle.host.specs.declared.walk.Walk.{Walk}
 use Rattle.host.specs.declared.guard.Scope.TheVariants.{All as AllScope}
 use Rattle.host.specs.Effect.{each}
 use Rattle.host.specs.Guard.{done}
-use Rattle.host.specs.CallState.{Host, CallState, host, entries_of, our_reading, marks_as_set}
+use Rattle.host.specs.declared.Host.{Host}
+use Rattle.host.specs.CallState.{CallState, host, entries_of, our_reading, marks_as_set}
 use Rattle.host.specs.Settings.{found_for}
 use Rattle.host.specs.State.{host_count, own_entries, broadcast, link_of, with_link}
 use Rattle.host.proofs.Guarded.{passed, marks_state}

@@ -40,7 +40,8 @@ use Rattle.host.specs.declared.walk.Place.TheVariants.{Step1, Step2, Step3, Step
 use Rattle.host.specs.declared.guard.Scope.TheVariants.{OnLink, Opening, Walking}
 use Rattle.host.specs.Settings.{found_for}
 use Rattle.host.specs.State.{host_count, unset, fresh_link, link_of, with_link, no_link}
-use Rattle.host.specs.CallState.{Host, CallState, host, our_reading}
+use Rattle.host.specs.declared.Host.{Host}
+use Rattle.host.specs.CallState.{CallState, host, our_reading}
 use Rattle.host.specs.Effect.{nothing}
 use Rattle.host.specs.Guard.{done}
 use Rattle.host.specs.Walk.{is_open, place_of, packet_of, line_update, walk_fields_at, packet_fits}

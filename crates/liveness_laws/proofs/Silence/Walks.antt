@@ -40,7 +40,8 @@ use Rattle.host.specs.declared.walk.Place.TheVariants.{Step1, Step2, Step3, Step
 use Rattle.host.specs.declared.guard.Scope.TheVariants.{Opening, Walking}
 use Rattle.host.specs.Settings.{found_for}
 use Rattle.host.specs.State.{host_count, broadcast, link_of}
-use Rattle.host.specs.CallState.{Host, CallState, host, entries_of}
+use Rattle.host.specs.declared.Host.{Host}
+use Rattle.host.specs.CallState.{CallState, host, entries_of}
 use Rattle.host.specs.Reply.{plainly}
 use Rattle.host.specs.Walk.{is_open, place_of, packet_of, walk_update, line_update, reading_in_range, id_in_range, storable, walk_fields_at, packet_fits}
 use Rattle.host.specs.Effect.{nothing, answers}

@@ -32,7 +32,8 @@ use Rattle.host.specs.declared.walk.Place.TheVariants.{LineD}
 use Rattle.host.specs.declared.guard.Scope.TheVariants.{Walking}
 use Rattle.host.specs.Settings.{settings_fit, found_for}
 use Rattle.host.specs.State.{broadcast, link_of, with_link, host_count}
-use Rattle.host.specs.CallState.{Host, CallState, entries_of, host, our_reading, own_walk_in_range}
+use Rattle.host.specs.declared.Host.{Host}
+use Rattle.host.specs.CallState.{CallState, entries_of, host, our_reading, own_walk_in_range}
 use Rattle.host.specs.Guard.{out_of_range, in_walk, guard, done}
 use Rattle.host.specs.Walk.{is_open, packet_of, place_of, step_place, line_place, line_update, walk_fields_at, packet_fits}
 use Rattle.host.specs.Effect.{nothing, answers}

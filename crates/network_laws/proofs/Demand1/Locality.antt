@@ -38,7 +38,8 @@ use Rattle.host.specs.declared.guard.Scope.TheVariants.{Places, All, OnLink, Ope
 use Rattle.host.specs.Settings.{link_count_of, found_for}
 use Rattle.host.specs.State.{unset, fresh_link, host_count, broadcast, link_of, with_link, own_entries, with_entries, no_link}
 use Rattle.host.specs.declared.Effect.{Effect}
-use Rattle.host.specs.CallState.{Host, CallState, host, call_state, entries_of, our_reading, own_walk_in_range, state_in_range}
+use Rattle.host.specs.declared.Host.{Host}
+use Rattle.host.specs.CallState.{CallState, host, call_state, entries_of, our_reading, own_walk_in_range, state_in_range}
 use Rattle.host.specs.Walk.{is_open, place_of, packet_of, line_update, packet_fits, walk_in_range}
 use Rattle.host.specs.Effect.{nothing, answers}
 use Rattle.host.specs.Guard.{no_places, guard, done}

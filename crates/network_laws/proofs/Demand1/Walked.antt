@@ -39,7 +39,8 @@ use Rattle.host.specs.declared.walk.Place.{Place}
 use Rattle.host.specs.declared.walk.Place.TheVariants.{Step1, Step2, Step3, Step4, Step5, LineA, LineB, LineC, LineD}
 use Rattle.host.specs.Settings.{settings_good, found_for}
 use Rattle.host.specs.State.{host_count, broadcast, link_of, no_link}
-use Rattle.host.specs.CallState.{Host, host, our_reading}
+use Rattle.host.specs.declared.Host.{Host}
+use Rattle.host.specs.CallState.{host, our_reading}
 use Rattle.host.specs.Inspection.{inspect}
 use Rattle.host.specs.Walk.{is_open, no_walk, place_of, packet_of, walk_update, line_update, reading_in_range, id_in_range, walk_fields_at, packet_fits, walk_in_range}
 use Rattle.host.specs.code.Returned.{RowsBelow}

@@ -43,7 +43,8 @@ use Rattle.host.specs.declared.walk.Walk.{Walk}
 use Rattle.host.specs.declared.guard.Scope.TheVariants.{OnLink}
 use Rattle.host.specs.Settings.{found_for}
 use Rattle.host.specs.State.{broadcast, link_of, with_link, host_count}
-use Rattle.host.specs.CallState.{Host, CallState, host, our_reading}
+use Rattle.host.specs.declared.Host.{Host}
+use Rattle.host.specs.CallState.{CallState, host, our_reading}
 use Rattle.host.proofs.Places.{Holds, entries_length}
 use Rattle.host.proofs.Guarded.{passed, holds}
 use Rattle.arrival.specs.declared.Flight.{Flight}

@@ -49,7 +49,8 @@ use Rattle.host.specs.declared.walk.Place.TheVariants.{Step1, Step2, Step3, Step
 use Rattle.host.specs.declared.guard.Scope.TheVariants.{Opening, Walking}
 use Rattle.host.specs.Settings.{found_for}
 use Rattle.host.specs.State.{unset, fresh_link, host_count, broadcast, link_of, with_link, no_link}
-use Rattle.host.specs.CallState.{Host, CallState, host, entries_of, our_reading}
+use Rattle.host.specs.declared.Host.{Host}
+use Rattle.host.specs.CallState.{CallState, host, entries_of, our_reading}
 use Rattle.host.specs.Reply.{plainly}
 use Rattle.host.specs.Inspection.{other_layout}
 use Rattle.host.specs.Walk.{is_open, no_walk, place_of, packet_of, walk_update, line_update, reading_in_range, id_in_range, storable, walk_fields_at, packet_fits}

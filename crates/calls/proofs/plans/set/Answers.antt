@@ -8,7 +8,7 @@ use Rattle.calls.proofs.plans.set.Goals as goal
 
 pub returns : goal.returns
 unfolding definition.set_by
-returns c t l w o e =
+returns c t w o e =
     let a = c.args in
     let f : SFits w32 a.ms = search rules in
     rw (c.plainly.ensures, c.set_by.ensures, c.from.ensures, to_z-of_z w32 a.ms f)

@@ -4,4 +4,4 @@ use Rattle.calls.specs.Effects as definition
 use Rattle.calls.proofs.plans.tick.Goals as goal
 
 pub ticked-requires-clause-clock_tick_value : goal.ticked-requires-clause-clock_tick_value
-ticked-requires-clause-clock_tick_value c = (sound _ c.requires.0).tick
+ticked-requires-clause-clock_tick_value c = (sound _ c.args.h.good).tick
