@@ -118,7 +118,7 @@ pub fn initialize(
         (call_state settings.now net_table.now number clock.old links.old walk.old copy.now entries.old)
         result clock.new links.new walk.new copy.now entries.new }
 {
-    let g = guard_initialize(*settings, *net_table, number, entries.len());
+    let g = guard_initialize(settings, *net_table, number, entries.len());
     if refuses(g) {
         return plainly(g);
     }

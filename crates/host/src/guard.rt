@@ -51,13 +51,13 @@ fn full_scan(
     number: usize,
     count: usize,
     c: Clock,
-    l: Links,
+    l: &Links,
     links: usize,
     walk: bool,
     marks: Marks,
 ) -> Option<Scan>
     requires { (number ≤ 15) × (count ≤ 255) × (links ≤ 8) }
-    ensures { result ≡ full_scan number count c l links walk marks }
+    ensures { result ≡ full_scan number count c l.now links walk marks }
 {
     if !(c.in_range() && super::link_state::in_range(links, l) && walk) {
         return None;
@@ -100,17 +100,17 @@ fn in_walk(w: Walk, scope: Scope) -> bool
 
 // Which entries to look at, if all that is tested before them is good.
 fn held(
-    s: Settings,
+    s: &Settings,
     t: NetTable,
     number: usize,
     c: Clock,
-    l: Links,
+    l: &Links,
     w: Walk,
     copy: &[u8],
     scope: Scope,
     n: usize,
 ) -> Option<Scan>
-    ensures { result ≡ held scope t number (host s c l) w copy.now n }
+    ensures { result ≡ held scope t number (host s.now c l.now) w copy.now n }
 {
     if net_table::is_bad(t) || places_missing(number, n) {
         return None;
@@ -118,30 +118,30 @@ fn held(
     if initialized(scope) {
         return Some(nowhere());
     }
-    let links = super::link_state::count(s);
+    let links = super::link_state::count(*s);
     if !names_link(links, copy.len(), scope) {
         return None;
     }
     full_scan(
         number,
-        host_count(s),
+        host_count(*s),
         c,
         l,
         links,
-        super::walk::in_range(s, w, copy),
+        super::walk::in_range(*s, w, copy),
         s.marks,
     )
 }
 
 // All is within its range: 16 during a walk, then 1. The settings are tested in parts, here and in `guard_initialize`: each part is small enough to be inlined into both, and one test of all, `fit`, is not.
 #[tactic(auto, unfolding(crate::specs::Settings::settings_good))]
-fn judged(s: Settings, t: NetTable, w: Walk, scope: Scope) -> Answer
-    ensures { result ≡ judged s t w scope }
+fn judged(s: &Settings, t: NetTable, w: Walk, scope: Scope) -> Answer
+    ensures { result ≡ judged s.now t w scope }
 {
     if in_walk(w, scope) {
         return Answer::InWalk;
     }
-    if !(super::numbers_good(s) && super::marks_good(s) && s.layout.nhosts == t.nhosts) {
+    if !(super::numbers_good(s) && super::marks_good(*s) && s.layout.nhosts == t.nhosts) {
         return Answer::Setting;
     }
     Answer::Done
@@ -162,11 +162,11 @@ pub fn guard(
     ensures { result ≡ guard scope (call_state settings.now net_table.now number clock.now links.now walk.now copy.now entries.now) }
 {
     let Some(scan) = held(
-        *settings,
+        settings,
         *net_table,
         number,
         *clock,
-        *links,
+        links,
         *walk,
         copy,
         scope,
@@ -177,18 +177,18 @@ pub fn guard(
     if !all_in_range(entries, scan) {
         return Answer::OutOfRange;
     }
-    judged(*settings, *net_table, *walk, scope)
+    judged(settings, *net_table, *walk, scope)
 }
 
 // The same for initialization: clock, links, walk and entries may be anything; the host table has that many places.
 #[tactic(auto, unfolding(crate::specs::Settings::settings_good))]
-pub fn guard_initialize(s: Settings, t: NetTable, number: usize, places: usize) -> Answer
-    ensures { result ≡ judged_initialize s t number places }
+pub fn guard_initialize(s: &Settings, t: NetTable, number: usize, places: usize) -> Answer
+    ensures { result ≡ judged_initialize s.now t number places }
 {
     if net_table::is_bad(t) || places_missing(number, places) {
         return Answer::OutOfRange;
     }
-    if !(super::numbers_good(s) && super::marks_good(s) && s.layout.nhosts == t.nhosts) {
+    if !(super::numbers_good(s) && super::marks_good(*s) && s.layout.nhosts == t.nhosts) {
         return Answer::Setting;
     }
     Answer::Done

@@ -185,8 +185,8 @@ pub fn our_reading(h: GoodHost, k: clock::Counter) -> clock::Reading
 }
 
 // Are the links, the numbers, the time and the date of the settings within their rules?
-fn numbers_good(s: Settings) -> bool
-    ensures { result ≡ numbers_good s }
+fn numbers_good(s: &Settings) -> bool
+    ensures { result ≡ numbers_good s.now }
 {
     let nhosts = s.layout.nhosts;
     if !(from_to(1, MAX_LINKS, s.link_count) & link_state::switches_good(s)) {
@@ -222,7 +222,7 @@ fn marks_good(s: Settings) -> bool
 pub fn good(s: Settings) -> bool
     ensures { result ≡ settings_good s }
 {
-    numbers_good(s) & marks_good(s)
+    numbers_good(&s) & marks_good(s)
 }
 
 // Are they, and is the class's NHOSTS theirs?

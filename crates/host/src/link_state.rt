@@ -98,9 +98,9 @@ fn link_in_range(x: Link) -> bool
 }
 
 // Are the first n links within their ranges?
-pub fn in_range(count: usize, l: Links) -> bool
+pub fn in_range(count: usize, l: &Links) -> bool
     requires { count ≤ 8 }
-    ensures { result ≡ every link_in_range (take count l.all) }
+    ensures { result ≡ every link_in_range (take count l.now.all) }
 {
     l.all[..count].iter().all(|x| link_in_range(*x))
 }
@@ -113,8 +113,8 @@ fn switch_good(x: LinkSetting) -> bool
 }
 
 // Are the switches of all links of the host 0 or 1?
-pub fn switches_good(s: Settings) -> bool
-    ensures { result ≡ switches_good s }
+pub fn switches_good(s: &Settings) -> bool
+    ensures { result ≡ switches_good s.now }
 {
-    s.links[..count(s)].iter().all(|x| switch_good(*x))
+    s.links[..count(*s)].iter().all(|x| switch_good(*x))
 }
