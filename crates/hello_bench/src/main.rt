@@ -26,6 +26,7 @@ const LIMIT: u64 = 65536;
 const PLACES: usize = 255;
 
 // A bench as large as any file asks.
+#[derive(Drop)]
 struct Bench {
     hosts: [HostState; 16],
     copies: [u8; 16832],
@@ -135,7 +136,7 @@ fn own_entries(rt: &impl Print, entries: &[Entry; 4080], n: usize) -> io::Result
     Ok(())
 }
 
-fn bench(rt: &impl Print, file: &[u8]) -> io::Result<()> {
+fn exercise(rt: &impl Print, file: &[u8]) -> io::Result<()> {
     let mut b = empty();
     let t = net_table::without_rows(nhosts(file));
     let answer = bench::set_up(
@@ -161,5 +162,5 @@ fn bench(rt: &impl Print, file: &[u8]) -> io::Result<()> {
 fn main(rt: HostRuntime) -> io::Result<()> {
     let mut file = Vec::new(rt.alloc());
     rt.reader().take(LIMIT).read_to_end(&mut file)?;
-    bench(&rt, &file)
+    exercise(&rt, &file)
 }

@@ -163,7 +163,7 @@ pub fn take(
         Delivery::Inspect(link),
         packet,
     );
-    if looked.reply.answer != answer::Answer::Done {
+    if !calls::queries::is_done(looked.reply.answer) {
         return looked;
     }
     deliver(

@@ -136,7 +136,7 @@ fn entry_before(r: &[u8; RECORD]) -> Entry {
 }
 
 // The arrival of a record. A packet is at most 48 octets long.
-pub fn run(rt: &impl Print, r: &[u8; RECORD]) -> io::Result<()> {
+pub(crate) fn run(rt: &impl Print, r: &[u8; RECORD]) -> io::Result<()> {
     let length = r[75] as usize;
     rt.write_all(&r[..64])?;
     if length > 48 {

@@ -32,7 +32,7 @@ fn advertised(rt: &impl Print, name: &str, pid: u8, delay: i64) -> io::Result<()
 }
 
 // Routes by way of the neighbor are not reported to it (split horizon).
-pub fn split_horizon(rt: &impl Print) -> io::Result<()> {
+pub(crate) fn split_horizon(rt: &impl Print) -> io::Result<()> {
     advertised(rt, "sent on link 1, of a route by link 1", 1, 500)?;
     advertised(rt, "sent on link 1, of a route by link 2", 2, 500)?;
     advertised(rt, "sent on link 1, of the host itself", 0, 0)
@@ -63,7 +63,7 @@ fn second(rt: &impl Print, name: &str, delay: i64, ttl: u16) -> io::Result<()> {
 }
 
 // TABLE-5: TTL decreases, and an entry that is up goes down at zero.
-pub fn ageing(rt: &impl Print) -> io::Result<()> {
+pub(crate) fn ageing(rt: &impl Print) -> io::Result<()> {
     second(rt, "a second, live entry, TTL 2", 500, 2)?;
     second(rt, "a second, live entry, TTL 1", 500, 1)?;
     second(rt, "a second, live entry, TTL 0", 500, 0)?;
@@ -85,7 +85,7 @@ fn lookup(rt: &impl Print, name: &str, pid: u8, delay: i64) -> io::Result<()> {
 }
 
 // CALL-3: what a lookup returns, and 13 for a host that is down.
-pub fn lookups(rt: &impl Print) -> io::Result<()> {
+pub(crate) fn lookups(rt: &impl Print) -> io::Result<()> {
     lookup(rt, "lookup, route by link 1:", 1, 500)?;
     lookup(rt, "lookup, route by link 8:", 8, 29_999)?;
     lookup(rt, "lookup, the host is down:", 1, table::MAX_DELAY.0)
@@ -129,7 +129,7 @@ fn message(rt: &impl Print, name: &str, keep_alive: u8) -> io::Result<()> {
 }
 
 // SUM-6, SEND-3: B's answer has TSP 45,000 if KEEP-ALIVE is not zero, and else 0.
-pub fn tsp(rt: &impl Print) -> io::Result<()> {
+pub(crate) fn tsp(rt: &impl Print) -> io::Result<()> {
     message(rt, "B answers at 45,530 where its TSP is -530", 4)?;
     message(rt, "the same where KEEP-ALIVE is 0", 0)
 }

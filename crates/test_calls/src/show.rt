@@ -6,11 +6,11 @@ use std::net::Ipv4Addr;
 use table::Entry;
 use wire::Report;
 
-pub fn answer(rt: &impl Print, a: Answer) -> io::Result<()> {
+pub(crate) fn answer(rt: &impl Print, a: Answer) -> io::Result<()> {
     print!(rt; " answer {}", u8::from(a))
 }
 
-pub fn link(rt: &impl Print, x: Link) -> io::Result<()> {
+pub(crate) fn link(rt: &impl Print, x: Link) -> io::Result<()> {
     let a = x.neighbor;
     let neighbor = Ipv4Addr::new(a.first, a.second, a.third, a.fourth);
     print!(rt;
@@ -20,7 +20,7 @@ pub fn link(rt: &impl Print, x: Link) -> io::Result<()> {
 }
 
 // An entry, except its time.
-pub fn entry(rt: &impl Print, e: Entry) -> io::Result<()> {
+pub(crate) fn entry(rt: &impl Print, e: Entry) -> io::Result<()> {
     print!(rt;
         ": DELAY {} OFFSET {} TTL {} PID {}",
         e.delay.0, e.offset.0, e.ttl.0, e.pid
@@ -28,6 +28,6 @@ pub fn entry(rt: &impl Print, e: Entry) -> io::Result<()> {
 }
 
 // What is advertised of an entry.
-pub fn report(rt: &impl Print, r: Report) -> io::Result<()> {
+pub(crate) fn report(rt: &impl Print, r: Report) -> io::Result<()> {
     print!(rt; ": DELAY {} OFFSET {}", r.delay.0, r.offset.0)
 }

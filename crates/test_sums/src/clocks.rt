@@ -45,7 +45,7 @@ fn set(c: Clock, ms: i32, n: u16) -> Clock {
 }
 
 // SUM-7: a full day stays; a unit more is 1 unit of the next day.
-pub fn midnight(rt: &impl Print) -> io::Result<()> {
+pub(crate) fn midnight(rt: &impl Print) -> io::Result<()> {
     let late = Clock::fresh(Millis(86_399_999), Date::FIRST);
     let stays = ticked(late, Units::of_millis(Millis(1)), NO_COUNT);
     show::clock(rt, "86,400,000 ms", stays)?;
@@ -78,7 +78,7 @@ fn after_adjusts(
 }
 
 // CLOCK-3: a DELTA of -1 to -128 units loses one unit at each adjust until it is 0; one of +1 to +127 never changes.
-pub fn deltas(rt: &impl Print) -> io::Result<()> {
+pub(crate) fn deltas(rt: &impl Print) -> io::Result<()> {
     after_adjusts(rt, "DELTA -1 after 1 adjust", 1000, -1, 1)?;
     after_adjusts(rt, "DELTA -127 after 1 adjust", 1000, -127, 1)?;
     after_adjusts(rt, "DELTA -127 after 126 adjusts", 1000, -127, 126)?;
@@ -90,19 +90,19 @@ pub fn deltas(rt: &impl Print) -> io::Result<()> {
 }
 
 // CLOCK-6: an adjust at CLOCK 0 with DELTA -1 goes back a day and loads HOLD.
-pub fn below_zero(rt: &impl Print) -> io::Result<()> {
+pub(crate) fn below_zero(rt: &impl Print) -> io::Result<()> {
     after_adjusts(rt, "DELTA -1 at CLOCK 0", 0, -1, 1)
 }
 
 // A Set by the most and by the least that it takes passes midnight 24 times, and 25 times back.
-pub fn far_sets(rt: &impl Print) -> io::Result<()> {
+pub(crate) fn far_sets(rt: &impl Print) -> io::Result<()> {
     let start = clock_of(Units(0), Units(0));
     show::clock(rt, "a Set by 2^31 - 1", set(start, 2_147_483_647, NO_COUNT))?;
     show::clock(rt, "a Set by -2^31", set(start, -2_147_483_648, NO_COUNT))
 }
 
 // CLOCK-4, CLOCK-15: -128 to +127 ms slew, other sets step; an adjust moves CLOCK by a millisecond at most.
-pub fn slew_limits(rt: &impl Print) -> io::Result<()> {
+pub(crate) fn slew_limits(rt: &impl Print) -> io::Result<()> {
     let start = clock_of(Units::of_millis(Millis(1_000)), Units(0));
     show::clock(rt, "a Set by 127", set(start, 127, NO_COUNT))?;
     show::clock(rt, "a Set by 128", set(start, 128, NO_COUNT))?;
@@ -145,7 +145,7 @@ fn marked(n: u16, again: u16) -> Counter {
 }
 
 // CLOCK-9: a reading can change DATE and HOLD, and CLOCK alone can be below zero.
-pub fn crystal_midnights(rt: &impl Print) -> io::Result<()> {
+pub(crate) fn crystal_midnights(rt: &impl Print) -> io::Result<()> {
     let tick = Units(1);
     let late = clock_of(Units::of_millis(Millis(86_399_000)), Units(0));
     reading(rt, "86,399,000 ms and 1,000", late, tick, counting(1_000))?;
@@ -176,7 +176,7 @@ pub fn crystal_midnights(rt: &impl Print) -> io::Result<()> {
 }
 
 // CLOCK-8, CLOCK-13: readings with the mark, with the longest CLOCK-TICK.
-pub fn crystal_overflow(rt: &impl Print) -> io::Result<()> {
+pub(crate) fn crystal_overflow(rt: &impl Print) -> io::Result<()> {
     let most = Units::of_millis(Millis(65_536));
     let start = clock_of(Units(0), Units(0));
     reading(rt, "0 ms and 65,535", start, most, counting(65_535))?;
@@ -198,7 +198,7 @@ pub fn crystal_overflow(rt: &impl Print) -> io::Result<()> {
 }
 
 // CLOCK-14: tick, adjust and set take a count without a mark.
-pub fn crystal_changes(rt: &impl Print) -> io::Result<()> {
+pub(crate) fn crystal_changes(rt: &impl Print) -> io::Result<()> {
     let tick = Units::of_millis(Millis(1));
     let late = clock_of(Units::of_millis(Millis(86_399_000)), Units(128));
     show::clock(rt, "a tick of 1 ms, 999", ticked(late, tick, 999))?;

@@ -4,7 +4,7 @@ use calendar::Date;
 use std::io;
 
 // SUM-1: the two checksums of a HELLO without hosts.
-pub fn checksums(rt: &impl Print) -> io::Result<()> {
+pub(crate) fn checksums(rt: &impl Print) -> io::Result<()> {
     show::hex(
         rt,
         "checksum of 302B, 3,600,000, 1234, 1",
@@ -23,7 +23,7 @@ pub fn checksums(rt: &impl Print) -> io::Result<()> {
 }
 
 // SUM-2: three steps of dates, and back.
-pub fn dates(rt: &impl Print) -> io::Result<()> {
+pub(crate) fn dates(rt: &impl Print) -> io::Result<()> {
     show::date(rt, "the day after 2956", Date(2956).next())?;
     show::date(rt, "the day after 2955", Date(2955).next())?;
     show::date(rt, "the day after 13311", Date(13311).next())?;
@@ -41,7 +41,7 @@ fn made(rt: &impl Print, name: &str, year: u16, month: u16, day: u16) -> io::Res
 }
 
 // DATE-1, DATE-2: the two ends, the leap day of a leap year, and days that there are not.
-pub fn made_dates(rt: &impl Print) -> io::Result<()> {
+pub(crate) fn made_dates(rt: &impl Print) -> io::Result<()> {
     made(rt, "1 January 1972", 1972, 1, 1)?;
     made(rt, "28 February 1984", 1984, 2, 28)?;
     made(rt, "29 February 1984", 1984, 2, 29)?;
