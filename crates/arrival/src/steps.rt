@@ -1,4 +1,4 @@
-// Steps 2 to 4 of an arrival.
+// Steps 2 to 4 of an arrival. C programs lay out the reading that a walk holds between them, so each step asks for its range.
 ghost use Rattle.std.specs.Prelude.{◌≡◌, true, cond, pos};
 ghost use Rattle.quantity.specs.Quantity.{millis};
 ghost use Rattle.clock.specs.Midnight.{day_millis};

@@ -32,14 +32,10 @@ pub struct Aged {
 pub(crate) fn tick(h: GoodHost, n: Count) -> Timed
     ensures { Timely result (Tick n) h.host }
 {
-    let Host {
-        settings,
-        clock,
-        ..
-    } = h.host;
+    let s = h.host.settings;
     Timed {
         reply: plainly(Answer::Done),
-        clock: clock.ticked(settings.clock_tick, settings.hold_interval, n),
+        clock: h.host.clock.ticked(s.clock_tick, s.hold_interval, n),
     }
 }
 
@@ -47,14 +43,10 @@ pub(crate) fn tick(h: GoodHost, n: Count) -> Timed
 pub(crate) fn adjust(h: GoodHost, n: Count) -> Timed
     ensures { Timely result (Adjust n) h.host }
 {
-    let Host {
-        settings,
-        clock,
-        ..
-    } = h.host;
+    let s = h.host.settings;
     Timed {
         reply: plainly(Answer::Done),
-        clock: clock.adjusted(settings.hold_interval, n),
+        clock: h.host.clock.adjusted(s.hold_interval, n),
     }
 }
 
@@ -62,14 +54,10 @@ pub(crate) fn adjust(h: GoodHost, n: Count) -> Timed
 pub(crate) fn set(h: GoodHost, ms: i32, n: Count) -> Timed
     ensures { Timely result (Set ms n) h.host }
 {
-    let Host {
-        settings,
-        clock,
-        ..
-    } = h.host;
+    let s = h.host.settings;
     Timed {
         reply: plainly(Answer::Done),
-        clock: clock.set_by(settings.hold_interval, n, Millis::from(ms)),
+        clock: h.host.clock.set_by(s.hold_interval, n, Millis::from(ms)),
     }
 }
 

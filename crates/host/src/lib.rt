@@ -87,7 +87,7 @@ pub struct Host {
     pub links: Links,
 }
 
-// A host that the guard let pass: its settings are good, and its clock is in range.
+// A host that the guard let pass: its settings are good, and its clock is in range. The net table stays beside it, since ticks, sends and readings use none.
 #[derive(Clone, Copy)]
 pub struct GoodHost {
     pub host: Host,

@@ -112,7 +112,10 @@ fn entry_of(entries: [Entry; 255], id: u8) -> Entry {
 // A line's end: the answer, link 1, and the entry of an id.
 fn returned(rt: &impl Print, w: HostReply, id: u8) -> io::Result<()> {
     show::answer(rt, w.reply.answer)?;
-    show::link(rt, host::link_state::link_of(w.links, LinkNumber { number: 1 }))?;
+    show::link(
+        rt,
+        host::link_state::link_of(w.links, LinkNumber { number: 1 }),
+    )?;
     print!(rt; "; id {id}")?;
     show::entry(rt, entry_of(w.entries, id))?;
     println!(rt)

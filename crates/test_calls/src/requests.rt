@@ -4,8 +4,8 @@ use super::show;
 use calendar::Date;
 use calls::Request;
 use clock::{Clock, Counter};
-use host::Link;
 use host::link_number::LinkNumber;
+use host::{GoodHost, Host, Link};
 use owned_host::HostReply;
 use quantity::{Millis, Seconds, Word};
 use std::io;
@@ -102,8 +102,13 @@ fn sent_at(x: Link, c: Clock) -> Sent {
     let s = owned_host::settings();
     let one = LinkNumber { number: 1 };
     let links = host::link_state::with_link(host::link_state::fresh(s), one, x);
+    let h = Host {
+        settings: s,
+        clock: c,
+        links,
+    };
     if host::good(s) && c.in_range() {
-        let p = sending::send_in(s, c, links, one, Counter::zero(), 32);
+        let p = sending::send_in(GoodHost { host: h }, one, Counter::zero(), 32);
         if let Some(m) = p.message {
             return Sent {
                 tsp: m.packet.tsp,

@@ -1,4 +1,5 @@
 // Lines (a) to (d) of an id, a box each.
+// What the packet and the id are to satisfy stands in each contract: a type of the packet with its fields would hold the settings too, and each line the walk beside it.
 ghost use Rattle.std.specs.Prelude.{◌≡◌, true, eqb};
 ghost use Rattle.clock.specs.Clock.{clock_in_range};
 ghost use Rattle.table.specs.Forms.{on};
