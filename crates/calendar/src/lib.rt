@@ -164,11 +164,13 @@ impl Date {
 }
 
 // The rule of the months' last days gives the twelve numbers of the calendar, in every year.
+#[tactic(auto, using(crate::proofs::Months::lengths_hold))]
 pub fn month_lengths()
     ensures { MonthLengths }
 {}
 
 // A step back undoes a step on and the reverse, and the two ends join.
+#[tactic(auto, using(crate::proofs::Stepping::steps_hold))]
 pub fn steps()
     ensures { Steps }
 {}

@@ -42,6 +42,7 @@ pub fn survey(input: &[u8], starts: &mut [u16]) -> Survey
 }
 
 // CAPTURE-5: are number and places in the input those of the packets found, by where these start?
+#[tactic(auto, using(crate::proofs::Listed::listed_few, crate::proofs::Marks::mark_number, crate::proofs::Marks::mark_places, crate::proofs::Marks::mark_right, crate::proofs::Marks::mark_short, crate::proofs::Marks::mark_true, crate::proofs::Marks::mark_wrong))]
 pub fn marked(input: &[u8], starts: &[u16]) -> bool
     requires { starts.now ≡ starts_of (hits input.now) }
     ensures { result ≡ places_true_of input.now }

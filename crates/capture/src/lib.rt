@@ -90,35 +90,42 @@ pub fn recover(input: &[u8], capture: &mut [u8], stretches: &mut [u8]) -> Result
 }
 
 // The search goes step by step as the paper has it.
+#[tactic(auto, using(crate::proofs::Steps::searches))]
 pub fn searches()
     ensures { Searches }
 {}
 
 // How long the outputs can be.
+#[tactic(auto, using(crate::proofs::Mending::bounded))]
 pub fn bounded()
     ensures { Bounded }
 {}
 
 // Kept and skipped stretches cover the input exactly once; none is empty, and no two stretches touch.
+#[tactic(auto, using(crate::proofs::Covering::covers))]
 pub fn covers()
     ensures { Covers }
 {}
 
 // Damage before a place that no hit straddles, at which a good packet starts, does not reach beyond it.
+#[tactic(auto, using(crate::proofs::Damaged::damage))]
 pub fn damage()
     ensures { Damage }
 {}
 
 // Both hypotheses of that law are needed: a packet that holds a good one, and a chain of packets each ending inside the next.
+#[tactic(auto, using(crate::proofs::Straddling::undamaged))]
 pub fn straddled_undamaged()
     ensures { StraddledUndamaged }
 {}
 
+#[tactic(auto, using(crate::proofs::Straddling::damaged))]
 pub fn straddled_damaged()
     ensures { StraddledDamaged }
 {}
 
 // Mending what the mender wrote, where it is not over 65,536 octets, gives the same capture, with the mark.
+#[tactic(auto, using(crate::proofs::Remended::again))]
 pub fn again()
     ensures { Again }
 {}

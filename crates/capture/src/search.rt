@@ -31,6 +31,7 @@ const NHOSTS: usize = 31;
 const LANES: usize = 32;
 
 // The length of the packet with which the octets begin, if there is one. The tests that cost little come first.
+#[tactic(auto, using(crate::proofs::Hits::Shows, crate::proofs::Steps::as_found, crate::proofs::Steps::found_nothing, crate::proofs::Hits::hit_none, crate::proofs::Hits::shown_hit))]
 fn hit(octets: &[u8]) -> Option<usize>
     requires { octet_at octets.now version_place ≡ version_and_length }
     ensures { result ≡ length_found (hit octets.now) }
@@ -61,6 +62,7 @@ fn hit(octets: &[u8]) -> Option<usize>
 }
 
 // The length of the packet at a place, if there is one.
+#[tactic(auto, using(crate::proofs::Steps::found_nothing, crate::proofs::Hits::hit_none, crate::proofs::Steps::version_at))]
 fn hit_at(input: &[u8], at: usize) -> Option<usize>
     requires { at < length input.now }
     ensures { result ≡ length_found (hit (drop at input.now)) }
@@ -72,6 +74,7 @@ fn hit_at(input: &[u8], at: usize) -> Option<usize>
 }
 
 // Can a packet begin at one of the 32 places from a place on? Only if its first octet and its protocol are right. The loop becomes vector code.
+#[tactic(auto, using(crate::proofs::Steps::at_neither, lists::proofs::Tests::neither))]
 fn any_may(input: &[u8], at: usize) -> bool
     requires { at + 41 ≤ length input.now }
     ensures { result ≡ false → NoneBetween input.now at (at + 32) }

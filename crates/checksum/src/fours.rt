@@ -48,6 +48,7 @@ fn last(s: &[u8]) -> u64
 }
 
 // A number congruent to the sum of a few octets' words.
+#[tactic(auto, using(crate::proofs::LowFirst::one_four))]
 fn short(s: &[u8]) -> u64
     requires { length s.now < short_length }
     ensures { end_around result ≡ end_around (low_sum s.now) }
@@ -71,6 +72,7 @@ fn halves(high: u32, sum: u32) -> u64
 }
 
 // The sum of a block's words. The places are counted: over `chunks_exact`, or by a pattern, the loop is no vector code and takes seven times as long.
+#[tactic(auto, using(crate::proofs::LowFirst::two_halves))]
 fn total(s: &[u8]) -> u64
     requires { length s.now ≤ block_length }
     ensures { result ≡ low_sum s.now }
@@ -87,6 +89,7 @@ fn total(s: &[u8]) -> u64
 }
 
 // A total with its carries added in.
+#[tactic(auto, unfolding(crate::specs::code::EndAround::end_around))]
 fn end_around(t: u64) -> u16
     ensures { result ≡ end_around t }
 {
@@ -118,6 +121,7 @@ pub fn low_first(s: &[u8]) -> u16
 }
 
 // A word with its octets in each other's places: 256 times as much, with the carries added in.
+#[tactic(auto, using(crate::proofs::LowFirst::swapped_word))]
 pub fn swapped(w: u16) -> u16
     ensures { result ≡ end_around (w * 256) }
 {

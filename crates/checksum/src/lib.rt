@@ -11,6 +11,7 @@ pub mod plain;
 const ALL_ONES: u16 = 0xFFFF;
 
 // The folded one's complement sum of all words: the second way, four octets at a time.
+#[tactic(auto, using(crate::proofs::LowFirst::changed_over, crate::proofs::Folding::folded_sum, octets::proofs::Each::of_places))]
 pub fn folded(s: &[u8]) -> u16
     ensures { result ≡ folded s.now }
 {
@@ -18,6 +19,7 @@ pub fn folded(s: &[u8]) -> u16
 }
 
 // Whether the octets, their checksum among them, add up to a word of all ones.
+#[tactic(auto, unfolding(crate::specs::Checksum::checksum_good))]
 pub fn good(s: &[u8]) -> bool
     ensures { result ≡ checksum_good s.now }
 {
@@ -25,6 +27,7 @@ pub fn good(s: &[u8]) -> bool
 }
 
 // The checksum to send with the octets.
+#[tactic(auto, unfolding(crate::specs::Checksum::checksum_of))]
 pub fn complement(s: &[u8]) -> u16
     ensures { result ≡ checksum_of s.now }
 {

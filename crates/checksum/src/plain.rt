@@ -13,6 +13,7 @@ fn word(high: u8, low: u8) -> u16
 }
 
 // Two words added in one's complement: the carry, if there is one, is added in.
+#[tactic(auto, using(crate::proofs::Words::no_carry, crate::proofs::Words::with_carry))]
 fn added(a: u16, b: u16) -> u16
     ensures { result ≡ fold a b }
 {
@@ -24,6 +25,7 @@ fn added(a: u16, b: u16) -> u16
 }
 
 // The folded one's complement sum of all words.
+#[tactic(auto, using(crate::proofs::Words::even_end, crate::proofs::Folding::folded_sum, crate::proofs::Words::odd_end, octets::proofs::Each::of_places, crate::proofs::Words::turned))]
 pub fn folded(s: &[u8]) -> u16
     ensures { result ≡ folded s.now }
 {
@@ -40,6 +42,7 @@ pub fn folded(s: &[u8]) -> u16
 }
 
 // The checksum to send with the octets.
+#[tactic(auto, unfolding(crate::specs::Checksum::checksum_of))]
 pub fn complement(s: &[u8]) -> u16
     ensures { result ≡ checksum_of s.now }
 {

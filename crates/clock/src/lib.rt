@@ -235,6 +235,7 @@ impl Clock {
     }
 
     // The clock with the tick of a counter that has overflowed.
+    #[tactic(auto, using(crate::proofs::Bounds::in_range_near, crate::proofs::Bounds::nearby, crate::proofs::Bounds::off_fits, crate::proofs::Bounds::range_says, crate::proofs::Bounds::ticked_off))]
     fn overflowed(self, clock_tick: Units, k: Counter) -> NearClock
         requires self_value { clock_in_range self ≡ true }
         requires clock_tick_value { tick_in_range clock_tick ≡ true }
@@ -428,25 +429,30 @@ pub fn read(c: &mut Clock, clock_tick: Units, hold_interval: Seconds, k: Counter
 }
 
 // The midnight rule is the paper's loops, and does not change a CLOCK within its day.
+#[tactic(auto, using(crate::proofs::Midnight::whiles_hold))]
 pub fn whiles()
     ensures { Whiles }
 {}
 
+#[tactic(auto, using(crate::proofs::Midnight::rests_hold))]
 pub fn rests()
     ensures { Rests }
 {}
 
 // A reading lies within its day; read again, it changes nothing; and within its day it changes nothing but a marked tick.
+#[tactic(auto, using(crate::proofs::Readings::crystal_holds))]
 pub fn crystal()
     ensures { Crystal }
 {}
 
 // With counts of zero the clock is the line clock.
+#[tactic(auto, using(crate::proofs::Readings::line_clock_holds))]
 pub fn line_clock()
     ensures { LineClock }
 {}
 
 // Of a clock in range one adjust moves CLOCK by a millisecond at most, on or back.
+#[tactic(auto, using(crate::proofs::Slew::one_milli_holds))]
 pub fn one_milli()
     ensures { OneMilli }
 {}

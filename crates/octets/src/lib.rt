@@ -55,6 +55,7 @@ pub fn put_octet(s: &mut [u8], i: usize, n: u8)
     s[i] = n;
 }
 
+#[tactic(auto, using(crate::proofs::Widths::be_bytes))]
 pub fn put_two(s: &mut [u8], i: usize, n: u16)
     requires { i + 2 ≤ length s.old }
     ensures { s.new ≡ sets s.old i (two n) }
@@ -62,6 +63,7 @@ pub fn put_two(s: &mut [u8], i: usize, n: u16)
     put(s, i, &u16::to_be_bytes(n));
 }
 
+#[tactic(auto, using(crate::proofs::Widths::be_bytes))]
 pub fn put_four(s: &mut [u8], i: usize, n: u32)
     requires { i + 4 ≤ length s.old }
     ensures { s.new ≡ sets s.old i (four n) }
@@ -69,6 +71,7 @@ pub fn put_four(s: &mut [u8], i: usize, n: u32)
     put(s, i, &u32::to_be_bytes(n));
 }
 
+#[tactic(auto, using(crate::proofs::Widths::be_bytes))]
 pub fn put_eight(s: &mut [u8], i: usize, n: u64)
     requires { i + 8 ≤ length s.old }
     ensures { s.new ≡ sets s.old i (eight n) }
@@ -87,11 +90,13 @@ pub fn put_words(s: &mut [u8], i: usize, first: u16, second: u16)
 // ---- theorems
 
 // For every width: a number that fits is read back from its octets.
+#[tactic(auto, using(crate::proofs::Widths::read_back))]
 pub fn read_back()
     ensures { ReadBack }
 {}
 
 // For every width: octets that are read as a number are that number's octets.
+#[tactic(auto, using(crate::proofs::Widths::written_back))]
 pub fn written_back()
     ensures { WrittenBack }
 {}

@@ -136,6 +136,7 @@ pub fn deliver(
 }
 
 // A packet is inspected and, where that is answered 0, acted on.
+#[tactic(auto, unfolding(calls::specs::Perform::perform))]
 pub fn take(
     settings: host::Settings,
     net_table: NetTable,
@@ -220,6 +221,7 @@ pub fn net_table() -> NetTable
 }
 
 // That host, initialized. No walk is open on it, so any octets serve as a copy.
+#[tactic(auto, unfolding(crate::specs::Program::program_host))]
 pub fn fresh_host(copy: &[u8]) -> HostReply
     ensures { result ≡ host_reply_of (program_host copy.now) }
 {
@@ -233,6 +235,7 @@ pub fn fresh_host(copy: &[u8]) -> HostReply
 }
 
 // The number of its answer to a packet on link 1.
+#[tactic(auto, unfolding(crate::specs::Program::program_answer))]
 pub fn answer(packet: &[u8]) -> u8
     ensures { result ≡ program_answer packet.now }
 {
@@ -247,6 +250,7 @@ pub fn answer(packet: &[u8]) -> u8
 }
 
 // What it returns for a packet on link 1 that it only inspects.
+#[tactic(auto, unfolding(crate::specs::Program::program_inspection))]
 pub fn inspection(packet: &[u8]) -> host::Reply
     ensures { result ≡ program_inspection packet.now }
 {

@@ -77,16 +77,19 @@ pub fn from_text(text: &[u8], out: &mut [u8]) -> Result<usize, Refusal>
 }
 
 // A message whose checksum is the sender's comes back from its text.
+#[tactic(auto, using(crate::proofs::Back::message_back))]
 pub fn message_back()
     ensures { MessageBack }
 {}
 
 // A text that is read comes back from its message.
+#[tactic(auto, using(crate::proofs::Back::text_back_again))]
 pub fn text_back()
     ensures { TextBack }
 {}
 
 // A text that was written is never refused for its form or its numbers.
+#[tactic(auto, using(crate::proofs::Back::never_refused))]
 pub fn never_refused()
     ensures { NeverRefused }
 {}

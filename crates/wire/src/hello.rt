@@ -51,6 +51,7 @@ pub fn checksum(hello: &[u8]) -> bool
 }
 
 // What is reported of host i.
+#[tactic(auto, unfolding(crate::specs::Hello::report_at))]
 pub fn report(hello: &[u8], i: usize) -> Report
     requires { report_place i + report_length ≤ length hello.now }
     ensures { (result ≡ report_at hello.now i) × Two result.delay.0 }

@@ -1,6 +1,0 @@
--- The statement of `read_back` is the lemma `read_back`; the function has no body.
-use Rattle.octets.proofs.Widths.{read_back}
-use Rattle.octets.proofs.read_back.Goals as goal
-
-pub returns : goal.returns
-returns c = read_back

@@ -1,6 +1,0 @@
--- The statement of `written_back` is the lemma `written_back`; the function has no body.
-use Rattle.octets.proofs.Widths.{written_back}
-use Rattle.octets.proofs.written_back.Goals as goal
-
-pub returns : goal.returns
-returns c = written_back
