@@ -105,7 +105,6 @@ pub fn initialize_table(table: &mut NetTable, nhosts: usize) -> Answer
 
 // A row more, at the end.
 #[tactic(auto, unfolding(crate::specs::Tutor::add))]
-#[tactic(auto, using(crate::proofs::Tables::most_hosts))]
 pub fn add(table: &mut NetTable, net: Net, id: usize) -> Added
     ensures { (table.new ≡ (add net id table.old).table) × (result ≡ (add net id table.old).added) }
 {
@@ -154,7 +153,6 @@ pub fn remove(table: &mut NetTable, row: usize) -> Answer
 
 // A row leads to another host; its net stays.
 #[tactic(auto, unfolding(crate::specs::Tutor::change))]
-#[tactic(auto, using(crate::proofs::Tables::most_hosts))]
 pub fn change(table: &mut NetTable, row: usize, id: usize) -> Answer
     ensures { (table.new ≡ (change row id table.old).table) × (result ≡ (change row id table.old).answer) }
 {
