@@ -30,7 +30,6 @@ fn padded(rows: &[Row]) -> [Row; 32]
 }
 
 // The rows and one more.
-#[tactic(auto, using(crate::proofs::Padded::one_more))]
 pub fn with_row(rows: &[Row], row: Row) -> [Row; 32]
     requires { length rows.now < 32 }
     ensures { result ≡ padded (with_row row rows.now) }
@@ -41,7 +40,6 @@ pub fn with_row(rows: &[Row], row: Row) -> [Row; 32]
 }
 
 // The rows except row k.
-#[tactic(auto, using(crate::proofs::Padded::appended))]
 pub fn without_row(rows: &[Row], k: usize) -> [Row; 32]
     requires rows_bound { length rows.now ≤ 32 }
     requires le_k { 1 ≤ k }
@@ -54,7 +52,6 @@ pub fn without_row(rows: &[Row], k: usize) -> [Row; 32]
 }
 
 // The rows, row k with another id.
-#[tactic(auto, using(crate::proofs::Padded::in_place))]
 pub fn with_id(rows: &[Row], k: usize, id: u8) -> [Row; 32]
     requires rows_bound { length rows.now ≤ 32 }
     requires le_k { 1 ≤ k }
