@@ -59,7 +59,7 @@ pub extern "C" fn hello_ntp_read(octets: &[u8]) -> NtpRead
     match ntp::wire::read(octets) {
         Ok(header) => NtpRead { answer: 0, header },
         Err(a) => NtpRead {
-            answer: ntp::number(a),
+            answer: u8::from(a),
             header: zero_header(),
         },
     }
@@ -73,7 +73,7 @@ pub extern "C" fn hello_ntp_write(header: ntp::Header) -> NtpWritten
     match ntp::wire::write(header) {
         Ok(octets) => NtpWritten { answer: 0, octets },
         Err(a) => NtpWritten {
-            answer: ntp::number(a),
+            answer: u8::from(a),
             octets: [0; 48],
         },
     }
@@ -90,8 +90,8 @@ pub extern "C" fn hello_ntp_receive(
 {
     let o = ntp::receive::receive(association, octets, destination);
     NtpOutcome {
-        answer: ntp::number(o.answer),
-        action: ntp::action_number(o.action),
+        answer: u8::from(o.answer),
+        action: i8::from(o.action),
         offset: o.offset,
         delay: o.delay,
         association: o.association,

@@ -106,17 +106,21 @@ impl Exponent {
 }
 
 // The number of an action in the RFC's appendix A.5.
-pub fn action_number(action: Action) -> i8
-    ensures { result ≡ action_number action }
-{
-    action as i8
+impl From<Action> for i8 {
+    ghost from_gives = { λ a n. n ≡ action_number a };
+
+    fn from(action: Action) -> i8 {
+        action as i8
+    }
 }
 
 // The number of an answer in the table.
-pub fn number(answer: Answer) -> u8
-    ensures { result ≡ number answer }
-{
-    answer as u8
+impl From<Answer> for u8 {
+    ghost from_gives = { λ a n. n ≡ number a };
+
+    fn from(answer: Answer) -> u8 {
+        answer as u8
+    }
 }
 
 // What was written is read back, and what was read is written back.

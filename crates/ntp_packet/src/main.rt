@@ -29,6 +29,6 @@ fn main(rt: HostRuntime) -> io::Result<()> {
     rt.reader().take(LIMIT).read_to_end(&mut octets)?;
     match ntp::wire::read(&octets) {
         Ok(h) => fields(&rt, h),
-        Err(answer) => println!(rt; "{}", ntp::number(answer)),
+        Err(answer) => println!(rt; "{}", u8::from(answer)),
     }
 }

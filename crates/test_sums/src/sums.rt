@@ -23,6 +23,7 @@ pub(crate) fn checksums(rt: &impl Print) -> io::Result<()> {
 }
 
 // SUM-2: three steps of dates, and back.
+#[tactic(auto, unfolding(calendar::specs::Date::real, calendar::specs::Date::last_day))]
 pub(crate) fn dates(rt: &impl Print) -> io::Result<()> {
     show::date(rt, "the day after 2956", Date(2956).next())?;
     show::date(rt, "the day after 2955", Date(2955).next())?;
