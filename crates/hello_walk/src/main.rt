@@ -33,7 +33,11 @@ fn line(rt: &impl Print, alloc: Global, before: HostReply, after: HostReply) -> 
     show::reading(&mut fields, before.walk, after.walk)?;
     let one = LinkNumber { number: 1 };
     let link = host::link_state::link_of(before.links, one);
-    show::link(&mut fields, link, host::link_state::link_of(after.links, one))?;
+    show::link(
+        &mut fields,
+        link,
+        host::link_state::link_of(after.links, one),
+    )?;
     show::held(&mut fields, before.walk, after.walk)?;
     show::entry(
         &mut fields,
