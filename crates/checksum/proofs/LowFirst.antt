@@ -1,5 +1,5 @@
 -- A sum of words with the low octet first is 256 times less, and 256 times a word is the word with its octets changed over, because a word in the high half of a total counts as in the low one.
-use Rattle.std.proofs.Common.{◌≡◌, ℕ, zero, suc, ◌+◌, ◌-◌, ◌*◌, ◌/◌, ◌%◌, ◌^◌, ◌<◌, ◌≤◌, List, [], ◌∷◌, length, get_or, take, drop, sym, refl, ap, ◌∙◌, add-zero, mul-zero, zero-add, mul-suc, arith, take-append-drop, length-take-le, take_all}
+use Rattle.std.proofs.Common.{◌≡◌, ℕ, zero, suc, ◌+◌, ◌-◌, ◌*◌, ◌/◌, ◌%◌, ◌^◌, ◌<◌, ◌≤◌, List, [], ◌∷◌, length, get_or, take, drop, sym, refl, ap, ◌∙◌, add-zero, mul-zero, zero-add, add_assoc, mul-suc, arith, take-append-drop, length-take-le, take_all}
 use Rattle.checksum.specs.Checksum.{all_ones}
 use Rattle.checksum.specs.code.EndAround.{end_around, word_sum, low_sum, low_four}
 use Rattle.checksum.proofs.Folding.{end_word, end_high, end_again, end_plus, sum_append, one_more}
@@ -59,6 +59,34 @@ one_four s (a ∷ b ∷ c ∷ d ∷ rest) sum n h e inv =
     let e₁ : sum + n + low_sum rest ≡ (c + d * 256) * 256 * 256 + t = omega arith in
     let e₂ : c + d * 256 + t ≡ sum + low_sum (a ∷ b ∷ c ∷ d ∷ rest) = omega arith in
     ap (λ l. end_around (sum + n + low_sum l)) all ∙ ap end_around e₁ ∙ end_high (c + d * 256) t ∙ ap end_around e₂ ∙ inv
+
+-- a turn of eight octets
+pub two_fours : (s left : List ℕ) (sum n m : ℕ) → 8 ≤ length left
+    → n ≡ low_four (get_or left 0 0) (get_or left 1 0) (get_or left 2 0) (get_or left 3 0)
+    → m ≡ low_four (get_or left 4 0) (get_or left 5 0) (get_or left 6 0) (get_or left 7 0)
+    → Stands s left sum
+    → Stands s (take (length left - 8) (drop 8 left)) (sum + (n + m))
+two_fours s [] sum n m h e₁ e₂ inv = absurd (omega arith)
+two_fours s (a ∷ []) sum n m h e₁ e₂ inv = absurd (omega arith)
+two_fours s (a ∷ b ∷ []) sum n m h e₁ e₂ inv = absurd (omega arith)
+two_fours s (a ∷ b ∷ c ∷ []) sum n m h e₁ e₂ inv = absurd (omega arith)
+two_fours s (a ∷ b ∷ c ∷ d ∷ rest) sum n m h e₁ e₂ inv =
+    let one : Stands s (take (length (a ∷ b ∷ c ∷ d ∷ rest) - 4) rest) (sum + n) = one_four s (a ∷ b ∷ c ∷ d ∷ rest) sum n (omega arith) e₁ inv in
+    let all : take (length (a ∷ b ∷ c ∷ d ∷ rest) - 4) rest ≡ rest = take_all _ rest (omega arith) in
+    let less : length (a ∷ b ∷ c ∷ d ∷ rest) - 8 ≡ length rest - 4 = omega arith in
+    rw (less, ← add_assoc sum n m)
+    (one_four s rest (sum + n) m (omega arith) e₂ (rw all at one))
+
+-- four octets and the rest
+pub four_and_rest : (s : List ℕ) (n m : ℕ) → 4 ≤ length s → n ≡ low_four (get_or s 0 0) (get_or s 1 0) (get_or s 2 0) (get_or s 3 0)
+    → m ≡ low_sum (take (length s - 4) (drop 4 s)) → end_around (n + m) ≡ end_around (low_sum s)
+four_and_rest s n m h e f =
+    let one : Stands s (take (length s - 4) (drop 4 s)) (0 + n) = one_four s s 0 n h e (ap end_around (zero-add (low_sum s))) in
+    rw f (rw (zero-add n) at one)
+
+-- what is added after the turns
+pub after_turns : (s left : List ℕ) (sum n : ℕ) → end_around n ≡ end_around (low_sum left) → Stands s left sum → end_around (sum + n) ≡ end_around (low_sum s)
+after_turns s left sum n e inv = end_plus sum sum n (low_sum left) refl e ∙ inv
 
 -- ---- the halves of numbers
 

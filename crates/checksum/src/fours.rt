@@ -47,19 +47,32 @@ fn last(s: &[u8]) -> u64
     }
 }
 
-// A number congruent to the sum of a few octets' words.
-#[tactic(auto, using(crate::proofs::LowFirst::one_four))]
+// The same of less than eight octets, up to carries.
+#[tactic(auto, using(crate::proofs::LowFirst::four_and_rest))]
+fn few(s: &[u8]) -> u64
+    requires { length s.now < 8 }
+    ensures congruent { end_around result ≡ end_around (low_sum s.now) }
+    ensures upper_bound { result < 2 ^ 33 }
+{
+    match s {
+        [a, b, c, d, rest @ ..] => four(*a, *b, *c, *d) as u64 + last(rest),
+        _ => last(s),
+    }
+}
+
+// A number congruent to the sum of a few octets' words: eight octets at a time, then the rest.
+#[tactic(auto, using(crate::proofs::LowFirst::two_fours, crate::proofs::LowFirst::after_turns))]
 fn short(s: &[u8]) -> u64
     requires { length s.now < short_length }
     ensures { end_around result ≡ end_around (low_sum s.now) }
 {
     let mut sum: u64 = 0;
     let mut left = s;
-    while let [a, b, c, d, rest @ ..] = left {
-        sum += four(*a, *b, *c, *d) as u64;
+    while let [a, b, c, d, e, f, g, h, rest @ ..] = left {
+        sum += four(*a, *b, *c, *d) as u64 + four(*e, *f, *g, *h) as u64;
         left = rest;
     }
-    sum + last(left)
+    sum + few(left)
 }
 
 // The sum of numbers' high and low halves, from the sum of the high ones and that of the numbers, cut to 32 bits.
