@@ -3,7 +3,7 @@
 
 ghost use Rattle.std.specs.Prelude.{◌≡◌, true, ◌≤◌, ◌<◌, length};
 ghost use Rattle.quantity.specs.Words.{signed_bits};
-ghost use Rattle.bench_file.specs.Header.{header_length, header_of, header_fits, header_bad};
+ghost use Rattle.bench_file.specs.Header.{header_length, event_length, header_of, header_fits, header_bad};
 ghost use Rattle.bench_file.specs.Records.{link_count_at, end_at, count_of, counter_of, event_of, event_at};
 ghost use Rattle.bench_file.specs.Absent.{end_good, cable_good, event_good, mark_good, cables_good, events_good};
 ghost use Rattle.bench_file.specs.code.Sections.{Sections};
@@ -120,13 +120,15 @@ pub fn end_at(file: &[u8], header: Header, cable: usize, end: usize) -> End
     }
 }
 
-fn count_of(part: &[u8; EVENT]) -> Count
+fn count_of(part: &[u8]) -> Count
+    requires { event_length ≤ length part.now }
     ensures { result ≡ count_of part.now }
 {
     Count(two_at(part, 6))
 }
 
-fn counter_of(part: &[u8; EVENT]) -> Counter
+fn counter_of(part: &[u8]) -> Counter
+    requires { event_length ≤ length part.now }
     ensures { result ≡ counter_of part.now }
 {
     Counter {
@@ -138,7 +140,8 @@ fn counter_of(part: &[u8; EVENT]) -> Counter
 
 // What an event's record says.
 #[tactic(auto, unfolding(crate::specs::Records::event_of))]
-pub fn event_of(part: &[u8; EVENT]) -> Event
+pub fn event_of(part: &[u8]) -> Event
+    requires { event_length ≤ length part.now }
     ensures { result ≡ event_of part.now }
 {
     match part[0] {
@@ -163,7 +166,7 @@ pub fn event_at(file: &[u8], header: Header, event: usize) -> Event
     ensures { result ≡ event_at file.now header event }
 {
     let at = header.events_start + EVENT * event;
-    event_of(file[at..at + EVENT].as_array().unwrap())
+    event_of(&file[at..at + EVENT])
 }
 
 // Is an end a link of a host of the file?
