@@ -1,5 +1,5 @@
 // Reads a bench file from standard input, sets a bench up from it and runs it, event by event. Prints each event with its answer, and at the end each host's clock and live entries. For a refused file it prints only the answer.
-// The net table has no rows, and the NHOSTS of the file's first host. A longer input than any bench file has is read as far as LIMIT, and the answer is 18.
+// The net table has no rows, and the NHOSTS of the file's first host. The buffer is longer than any bench file: a longer input fills it, and the answer is 18.
 #![tactic(auto)]
 
 ghost use Rattle.std.specs.Prelude.{◌≤◌, ◌<◌, length};
@@ -12,15 +12,11 @@ use clock::Clock;
 use host::{Link, Links};
 use net_table::NetTable;
 use quantity::{Millis, Word};
-use std::io;
-use std::io::Read;
+use std::io::Result;
 use table::Entry;
 use wire::Address;
 
 mod show;
-
-// More octets than any bench file has.
-const LIMIT: u64 = 65536;
 
 // The places of the host table that a host has.
 const PLACES: usize = 255;
@@ -85,7 +81,7 @@ fn empty() -> Bench {
 }
 
 // All events of the file, each with its line.
-fn events(rt: &impl Print, file: &[u8], h: Header, t: &NetTable, b: &mut Bench) -> io::Result<()>
+fn events(rt: &impl Print, file: &[u8], h: Header, t: &NetTable, b: &mut Bench) -> Result<()>
     requires { Sections h (length file.now) }
 {
     for i in 0..h.events {
@@ -107,7 +103,7 @@ fn events(rt: &impl Print, file: &[u8], h: Header, t: &NetTable, b: &mut Bench) 
 }
 
 // The clocks of n hosts.
-fn clocks(rt: &impl Print, hosts: &[HostState; 16], n: usize) -> io::Result<()>
+fn clocks(rt: &impl Print, hosts: &[HostState; 16], n: usize) -> Result<()>
     requires { n ≤ 16 }
 {
     println!(rt; "seat\tCLOCK ms\tDATE")?;
@@ -118,7 +114,7 @@ fn clocks(rt: &impl Print, hosts: &[HostState; 16], n: usize) -> io::Result<()>
 }
 
 // A host's entries.
-fn entries_of(rt: &impl Print, entries: &[Entry; 4080], node: usize) -> io::Result<()>
+fn entries_of(rt: &impl Print, entries: &[Entry; 4080], node: usize) -> Result<()>
     requires { node < 16 }
 {
     for id in 0..PLACES {
@@ -128,7 +124,7 @@ fn entries_of(rt: &impl Print, entries: &[Entry; 4080], node: usize) -> io::Resu
 }
 
 // The entries of n hosts.
-fn own_entries(rt: &impl Print, entries: &[Entry; 4080], n: usize) -> io::Result<()>
+fn own_entries(rt: &impl Print, entries: &[Entry; 4080], n: usize) -> Result<()>
     requires { n ≤ 16 }
 {
     println!(rt; "seat\thost\tDELAY ms\tOFFSET ms\tTTL s\tPID")?;
@@ -138,7 +134,7 @@ fn own_entries(rt: &impl Print, entries: &[Entry; 4080], n: usize) -> io::Result
     Ok(())
 }
 
-fn exercise(rt: &impl Print, file: &[u8]) -> io::Result<()> {
+fn exercise(rt: &impl Print, file: &[u8]) -> Result<()> {
     let mut b = empty();
     let t = net_table::without_rows(nhosts(file));
     let answer = bench::set_up(
@@ -161,8 +157,8 @@ fn exercise(rt: &impl Print, file: &[u8]) -> io::Result<()> {
     own_entries(rt, &b.entries, h.hosts)
 }
 
-fn main(rt: HostRuntime) -> io::Result<()> {
-    let mut file = Vec::new(rt.alloc());
-    rt.reader().take(LIMIT).read_to_end(&mut file)?;
-    exercise(&rt, &file)
+fn main(rt: HostRuntime) {
+    let mut octets = io::large_buffer();
+    let n = io::read_full(0, &mut octets);
+    let _ = exercise(&rt, &octets[..n]);
 }

@@ -1,4 +1,5 @@
 // Reads one packet from standard input, to its end, and walks it for the host of the packet program: it prints a line for each box, with what it changed, and the number of the answer below them. A packet that is refused has the number alone.
+// The buffer holds one octet more than any IP packet has: of a longer input it is full, and the answer is 3.
 #![tactic(auto)]
 
 use calls::Request;
@@ -6,17 +7,13 @@ use clock::Counter;
 use host::link_number::LinkNumber;
 use owned_host::HostReply;
 use std::alloc::Global;
-use std::io;
-use std::io::Read;
+use std::io::Result;
 use table::Entry;
 
 mod show;
 
 // The most boxes of a walk: the five steps, and lines (a) to (d) of 255 ids.
 const BOXES: u32 = 1025;
-
-// One octet more than any IP packet has: a longer input is read as far as that, and the answer is 3.
-const LIMIT: u64 = 65536;
 
 // The entry of an id.
 fn entry_of(entries: [Entry; 255], id: u8) -> Entry {
@@ -27,7 +24,7 @@ fn entry_of(entries: [Entry; 255], id: u8) -> Entry {
 }
 
 // The line of a box: the host before it and after it.
-fn line(rt: &impl Print, alloc: Global, before: HostReply, after: HostReply) -> io::Result<()> {
+fn line(rt: &impl Print, alloc: Global, before: HostReply, after: HostReply) -> Result<()> {
     let id = before.walk.id;
     let mut fields = String::new(alloc);
     show::reading(&mut fields, before.walk, after.walk)?;
@@ -67,7 +64,7 @@ fn next(h: HostReply, copy: &[u8]) -> HostReply {
 }
 
 // The boxes from an opened walk on, to its end, a line each.
-fn boxes(rt: &impl Print, alloc: Global, start: HostReply, copy: &[u8]) -> io::Result<HostReply> {
+fn boxes(rt: &impl Print, alloc: Global, start: HostReply, copy: &[u8]) -> Result<HostReply> {
     let mut h = start;
     for _ in 0..BOXES {
         if !host::walk::is_open(h.walk) {
@@ -97,11 +94,16 @@ fn opened(copy: &mut [u8], packet: &[u8]) -> HostReply {
     )
 }
 
-fn main(rt: HostRuntime) -> io::Result<()> {
-    let mut octets = Vec::new(rt.alloc());
-    rt.reader().take(LIMIT).read_to_end(&mut octets)?;
+// The walk of a packet, and the number of its answer.
+fn walk(rt: &impl Print, alloc: Global, packet: &[u8]) -> Result<()> {
     let mut copy = [0u8; 1052];
-    let h = opened(&mut copy, &octets);
-    let end = boxes(&rt, rt.alloc(), h, &copy)?;
+    let h = opened(&mut copy, packet);
+    let end = boxes(rt, alloc, h, &copy)?;
     println!(rt; "{}", u8::from(end.reply.answer))
+}
+
+fn main(rt: HostRuntime) {
+    let mut octets = io::large_buffer();
+    let n = io::read_full(0, &mut octets);
+    let _ = walk(&rt, rt.alloc(), &octets[..n]);
 }

@@ -1,14 +1,11 @@
 // Reads one NTP header from standard input, to its end, and prints its fields by name, a line each; or the number of the answer that refuses it.
+// The buffer holds one octet more than a header has: of a longer input it is full, and the answer is 23.
 #![tactic(auto)]
 
 use ntp::Header;
-use std::io;
-use std::io::Read;
+use std::io::Result;
 
-// One octet more than a header has: a longer input is read as far as that, and the answer is 23.
-const LIMIT: u64 = 49;
-
-fn fields(rt: &impl Print, h: Header) -> io::Result<()> {
+fn fields(rt: &impl Print, h: Header) -> Result<()> {
     println!(rt; "leap {}", h.leap)?;
     println!(rt; "version {}", h.version)?;
     println!(rt; "mode {}", h.mode)?;
@@ -24,11 +21,11 @@ fn fields(rt: &impl Print, h: Header) -> io::Result<()> {
     println!(rt; "transmit {}", h.transmit.0)
 }
 
-fn main(rt: HostRuntime) -> io::Result<()> {
-    let mut octets = Vec::new(rt.alloc());
-    rt.reader().take(LIMIT).read_to_end(&mut octets)?;
-    match ntp::wire::read(&octets) {
+fn main(rt: HostRuntime) {
+    let mut octets = [0u8; 49];
+    let n = io::read_full(0, &mut octets);
+    let _ = match ntp::wire::read(&octets[..n]) {
         Ok(h) => fields(&rt, h),
         Err(answer) => println!(rt; "{}", u8::from(answer)),
-    }
+    };
 }

@@ -24,10 +24,15 @@ fn all_records(rt: &(impl Input + Print)) -> io::Result<()> {
     Ok(())
 }
 
-fn main(rt: HostRuntime) -> io::Result<()> {
-    all_records(&rt)?;
-    requests::tsp(&rt)?;
-    requests::split_horizon(&rt)?;
-    requests::ageing(&rt)?;
-    requests::lookups(&rt)
+fn runs(rt: &(impl Input + Print)) -> io::Result<()> {
+    all_records(rt)?;
+    requests::tsp(rt)?;
+    requests::split_horizon(rt)?;
+    requests::ageing(rt)?;
+    requests::lookups(rt)
+}
+
+// A write that fails is not seen.
+fn main(rt: HostRuntime) {
+    let _ = runs(&rt);
 }

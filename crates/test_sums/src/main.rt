@@ -8,20 +8,25 @@ mod sums;
 
 use std::io;
 
-fn main(rt: HostRuntime) -> io::Result<()> {
-    clocks::midnight(&rt)?;
-    clocks::deltas(&rt)?;
-    clocks::below_zero(&rt)?;
-    clocks::far_sets(&rt)?;
-    clocks::slew_limits(&rt)?;
-    clocks::crystal_midnights(&rt)?;
-    clocks::crystal_overflow(&rt)?;
-    clocks::crystal_changes(&rt)?;
-    sums::checksums(&rt)?;
-    sums::dates(&rt)?;
-    sums::made_dates(&rt)?;
-    rfc1071::normal(&rt)?;
-    rfc1071::swapped_order(&rt)?;
-    rfc1071::reversed_order(&rt)?;
-    rfc1071::odd_boundary(&rt)
+fn runs(rt: &impl Print) -> io::Result<()> {
+    clocks::midnight(rt)?;
+    clocks::deltas(rt)?;
+    clocks::below_zero(rt)?;
+    clocks::far_sets(rt)?;
+    clocks::slew_limits(rt)?;
+    clocks::crystal_midnights(rt)?;
+    clocks::crystal_overflow(rt)?;
+    clocks::crystal_changes(rt)?;
+    sums::checksums(rt)?;
+    sums::dates(rt)?;
+    sums::made_dates(rt)?;
+    rfc1071::normal(rt)?;
+    rfc1071::swapped_order(rt)?;
+    rfc1071::reversed_order(rt)?;
+    rfc1071::odd_boundary(rt)
+}
+
+// A write that fails is not seen.
+fn main(rt: HostRuntime) {
+    let _ = runs(&rt);
 }
