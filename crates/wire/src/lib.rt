@@ -151,10 +151,12 @@ pub fn reports_back()
     ensures { ReportsBack }
 {}
 
-// Octets copied to a place.
+// Octets copied to a place. With `copy_from_slice` the archive for C programs needs `memmove` too.
 pub fn copy(to: &mut [u8], place: usize, from: &[u8])
     requires { place + length from.now ≤ length to.old }
     ensures { to.new ≡ over to.old place from.now }
 {
-    to[place..place + from.len()].copy_from_slice(from);
+    for i in 0..from.len() {
+        to[place + i] = from[i];
+    }
 }

@@ -14,5 +14,5 @@ slice_bounds-write_all-end c = sym (length-take-le _ _ (omega (arith, (told_fits
 pub slice_bounds-stretches-end : goal.slice_bounds-stretches-end
 slice_bounds-stretches-end c = omega (arith, (told_fits _ _ _ _ _ _ _ c.recover.ensures c.in-Ok.is).1)
 
-pub slice_bounds-print_stretches-end : goal.slice_bounds-print_stretches-end
-slice_bounds-print_stretches-end c = sym (length-take-le _ _ (omega (arith, (told_fits _ _ _ _ _ _ _ c.recover.ensures c.in-Ok.is).1)))
+pub slice_bounds-report-end : goal.slice_bounds-report-end
+slice_bounds-report-end c = sym (length-take-le _ _ (omega (arith, (told_fits _ _ _ _ _ _ _ c.recover.ensures c.in-Ok.is).1)))

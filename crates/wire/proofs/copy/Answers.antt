@@ -1,17 +1,12 @@
--- What the part holds now is put over the list.
-use mathlib.Core.Path.{refl, sym, ◌∙◌}
-use mathlib.Core.List.{append_assoc}
-use Prim.Native.Nat.{◌+◌, ◌-◌}
+-- One octet more is in its place.
 use native.Mathlib.Omega.{arith}
-use lib.ListN.{length, take, drop}
-use Rattle.std.proofs.lemmas.Slice.{put_mid-paste}
-use Rattle.std.proofs.lemmas.List.Edits.{paste_all}
+use native.Mathlib.Numerals.{add-one}
+use lib.ListN.{length-set}
+use lib.Seq.{paste-suc}
 use Rattle.wire.proofs.copy.Goals as goal
 
-pub returns : goal.returns
-returns c =
+pub loop-i-preserved : goal.loop-i-preserved
+loop-i-preserved c =
     let a = c.args in
-    let n = length a.from.now in
-    put_mid-paste a.place (a.place + n - a.place) a.to.now c.copy_from_slice.new.self a.from.now n c.copy_from_slice.ensures.after (omega arith) refl
-    ∙ paste_all a.to.now a.place a.from.now n refl
-    ∙ sym (append_assoc (take a.place a.to.now) a.from.now (drop (a.place + n) a.to.now))
+    let l = c.loop-i in
+    (simp length-set l.invariant.0, rw (l.invariant.1, add-one) (paste-suc a.to.now a.place a.from.now l.i 0 (omega arith) (omega arith)))
