@@ -6,7 +6,6 @@ use calls::Request;
 use clock::Counter;
 use host::link_number::LinkNumber;
 use owned_host::HostReply;
-use std::alloc::Global;
 use std::io::Result;
 use table::Entry;
 
@@ -24,28 +23,30 @@ fn entry_of(entries: [Entry; 255], id: u8) -> Entry {
 }
 
 // The line of a box: the host before it and after it.
-fn line(rt: &impl Print, alloc: Global, before: HostReply, after: HostReply) -> Result<()> {
+fn line(rt: &impl Print, before: HostReply, after: HostReply) -> Result<()> {
     let id = before.walk.id;
-    let mut fields = String::new(alloc);
-    show::reading(&mut fields, before.walk, after.walk)?;
+    let mut any = false;
+    show::place(rt, before.walk)?;
+    show::reading(rt, &mut any, before.walk, after.walk)?;
     let one = LinkNumber { number: 1 };
     let link = host::link_state::link_of(before.links, one);
     show::link(
-        &mut fields,
+        rt,
+        &mut any,
         link,
         host::link_state::link_of(after.links, one),
     )?;
-    show::held(&mut fields, before.walk, after.walk)?;
+    show::held(rt, &mut any, before.walk, after.walk)?;
     show::entry(
-        &mut fields,
+        rt,
+        &mut any,
         entry_of(before.entries, id),
         entry_of(after.entries, id),
     )?;
-    show::place(rt, before.walk)?;
-    if fields.is_empty() {
-        return println!(rt; " nothing");
+    if any {
+        return println!(rt);
     }
-    println!(rt; "{fields}")
+    println!(rt; " nothing")
 }
 
 // The next box. The host's clock is a line clock.
@@ -64,14 +65,14 @@ fn next(h: HostReply, copy: &[u8]) -> HostReply {
 }
 
 // The boxes from an opened walk on, to its end, a line each.
-fn boxes(rt: &impl Print, alloc: Global, start: HostReply, copy: &[u8]) -> Result<HostReply> {
+fn boxes(rt: &impl Print, start: HostReply, copy: &[u8]) -> Result<HostReply> {
     let mut h = start;
     for _ in 0..BOXES {
         if !host::walk::is_open(h.walk) {
             break;
         }
         let after = next(h, copy);
-        line(rt, alloc, h, after)?;
+        line(rt, h, after)?;
         h = after;
     }
     Ok(h)
@@ -95,15 +96,15 @@ fn opened(copy: &mut [u8], packet: &[u8]) -> HostReply {
 }
 
 // The walk of a packet, and the number of its answer.
-fn walk(rt: &impl Print, alloc: Global, packet: &[u8]) -> Result<()> {
+fn walk(rt: &impl Print, packet: &[u8]) -> Result<()> {
     let mut copy = [0u8; 1052];
     let h = opened(&mut copy, packet);
-    let end = boxes(rt, alloc, h, &copy)?;
+    let end = boxes(rt, h, &copy)?;
     println!(rt; "{}", u8::from(end.reply.answer))
 }
 
 fn main(rt: HostRuntime) {
     let mut octets = io::large_buffer();
     let n = io::read_full(0, &mut octets);
-    let _ = walk(&rt, rt.alloc(), &octets[..n]);
+    let _ = walk(&rt, &octets[..n]);
 }

@@ -2,15 +2,14 @@
 use host::Link;
 use host::walk::{Place, Walk};
 use quantity::{Millis, Word};
-use std::alloc::AllocError;
-use std::fmt::{Display, Write};
-use std::io;
+use std::fmt::Display;
+use std::io::Result;
 use std::net::Ipv4Addr;
 use table::Entry;
 use wire::Address;
 
 // The place of a walk.
-pub(crate) fn place(rt: &impl Print, w: Walk) -> io::Result<()> {
+pub(crate) fn place(rt: &impl Print, w: Walk) -> Result<()> {
     match host::walk::place_of(w) {
         None => print!(rt; "nowhere:"),
         Some(Place::Step1) => print!(rt; "step 1:"),
@@ -25,33 +24,36 @@ pub(crate) fn place(rt: &impl Print, w: Walk) -> io::Result<()> {
     }
 }
 
-// Adds a field to those of a line, if it changed.
+// Prints a field of a line, if it changed. `any` tells whether the line has a field yet.
 fn change<T: Display + PartialEq + Copy + Drop>(
-    fields: &mut String,
+    rt: &impl Print,
+    any: &mut bool,
     name: &str,
     before: T,
     after: T,
-) -> Result<(), AllocError> {
+) -> Result<()> {
     if before == after {
         return Ok(());
     }
-    if !fields.is_empty() {
-        fields.push(',')?;
+    if *any {
+        print!(rt; ",")?;
     }
-    write!(fields, " {name} {before} -> {after}")
+    *any = true;
+    print!(rt; " {name} {before} -> {after}")
 }
 
 fn millis(
-    fields: &mut String,
+    rt: &impl Print,
+    any: &mut bool,
     name: &str,
     before: Millis,
     after: Millis,
-) -> Result<(), AllocError> {
-    change(fields, name, before.0, after.0)
+) -> Result<()> {
+    change(rt, any, name, before.0, after.0)
 }
 
-fn word(fields: &mut String, name: &str, before: Word, after: Word) -> Result<(), AllocError> {
-    change(fields, name, before.0, after.0)
+fn word(rt: &impl Print, any: &mut bool, name: &str, before: Word, after: Word) -> Result<()> {
+    change(rt, any, name, before.0, after.0)
 }
 
 fn dotted(a: Address) -> Ipv4Addr {
@@ -59,38 +61,40 @@ fn dotted(a: Address) -> Ipv4Addr {
 }
 
 // Step 1 finds our reading.
-pub(crate) fn reading(fields: &mut String, before: Walk, after: Walk) -> Result<(), AllocError> {
+pub(crate) fn reading(rt: &impl Print, any: &mut bool, before: Walk, after: Walk) -> Result<()> {
     if before.step != 1 {
         return Ok(());
     }
-    write!(fields, " reading {} ms", after.reading.0)
+    *any = true;
+    print!(rt; " reading {} ms", after.reading.0)
 }
 
-pub(crate) fn link(fields: &mut String, before: Link, after: Link) -> Result<(), AllocError> {
-    change(fields, "KEEP-ALIVE", before.keep_alive, after.keep_alive)?;
+pub(crate) fn link(rt: &impl Print, any: &mut bool, before: Link, after: Link) -> Result<()> {
+    change(rt, any, "KEEP-ALIVE", before.keep_alive, after.keep_alive)?;
     change(
-        fields,
+        rt,
+        any,
         "NEIGHBOR-ADDRESS",
         dotted(before.neighbor),
         dotted(after.neighbor),
     )?;
-    word(fields, "TSP", before.tsp, after.tsp)
+    word(rt, any, "TSP", before.tsp, after.tsp)
 }
 
 // What a walk holds, unless the box ended it.
-pub(crate) fn held(fields: &mut String, before: Walk, after: Walk) -> Result<(), AllocError> {
+pub(crate) fn held(rt: &impl Print, any: &mut bool, before: Walk, after: Walk) -> Result<()> {
     if !host::walk::is_open(after) {
         return Ok(());
     }
-    word(fields, "DELAY", before.delay, after.delay)?;
-    word(fields, "OFFSET", before.offset, after.offset)
+    word(rt, any, "DELAY", before.delay, after.delay)?;
+    word(rt, any, "OFFSET", before.offset, after.offset)
 }
 
 // The entry of a host id.
-pub(crate) fn entry(fields: &mut String, before: Entry, after: Entry) -> Result<(), AllocError> {
-    millis(fields, "DELAY", before.delay, after.delay)?;
-    word(fields, "OFFSET", before.offset, after.offset)?;
-    change(fields, "TTL", before.ttl.0, after.ttl.0)?;
-    change(fields, "PID", before.pid, after.pid)?;
-    millis(fields, "time", before.time, after.time)
+pub(crate) fn entry(rt: &impl Print, any: &mut bool, before: Entry, after: Entry) -> Result<()> {
+    millis(rt, any, "DELAY", before.delay, after.delay)?;
+    word(rt, any, "OFFSET", before.offset, after.offset)?;
+    change(rt, any, "TTL", before.ttl.0, after.ttl.0)?;
+    change(rt, any, "PID", before.pid, after.pid)?;
+    millis(rt, any, "time", before.time, after.time)
 }

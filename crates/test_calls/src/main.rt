@@ -5,26 +5,23 @@ mod arrivals;
 mod requests;
 mod show;
 
-use std::io;
-use std::io::Read;
+use std::io::Result;
 
 // The most records of standard input that are run.
 const RECORDS: u32 = 100;
 
-// Runs the records of standard input, one after the other, as far as they are complete.
-fn all_records(rt: &(impl Input + Print)) -> io::Result<()> {
-    let mut reader = rt.reader();
+// Runs the records of standard input that are complete, one after the other.
+fn all_records(rt: &impl Print) -> Result<()> {
     for _ in 0..RECORDS {
         let mut r = [0; arrivals::RECORD];
-        if reader.read_exact(&mut r).is_err() {
-            break;
+        if io::read_full(0, &mut r) == arrivals::RECORD {
+            arrivals::run(rt, &r)?;
         }
-        arrivals::run(rt, &r)?;
     }
     Ok(())
 }
 
-fn runs(rt: &(impl Input + Print)) -> io::Result<()> {
+fn runs(rt: &impl Print) -> Result<()> {
     all_records(rt)?;
     requests::tsp(rt)?;
     requests::split_horizon(rt)?;
