@@ -24,7 +24,7 @@ pub(crate) fn place(rt: &impl Print, w: Walk) -> Result<()> {
     }
 }
 
-// Prints a field of a line, if it changed. `any` tells whether the line has a field yet.
+// Prints a field of a line, if it changed. `any`: whether the line has a field yet.
 fn change<T: Display + PartialEq + Copy + Drop>(
     rt: &impl Print,
     any: &mut bool,
