@@ -166,7 +166,7 @@ fn step5(h: Host, t: NetTable, link: LinkNumber, n: Count, p: Packet, f: Flight)
     ensures { result ≡ step5 t h link.number n p f }
 {
     if p.nhosts == 0 {
-        let found = host::found_for(t, h.settings, f.link.neighbor);
+        let found = host::found_for(&t, &h.settings, f.link.neighbor);
         return no_table(h, link, n, p, f, found);
     }
     let ids = host_count(h.settings);
@@ -194,7 +194,7 @@ fn action(h: GoodHost, t: NetTable, link: LinkNumber, k: Counter, p: Packet) -> 
     let r = host::our_reading(h, k);
     let clock = r.clock;
     let x = link_of(h.host.links, link);
-    match steps::two_to_four(broadcast(s, link), clock.hold, p, r.time, x) {
+    match steps::two_to_four(broadcast(&s, link), clock.hold, p, r.time, x) {
         ControlFlow::Break(f) => ends(Answer::DelayNotValid, stored(h.host, clock, link, f.link)),
         ControlFlow::Continue(f) => {
             let after = stored(h.host, clock, link, f.link);
@@ -207,7 +207,7 @@ fn action(h: GoodHost, t: NetTable, link: LinkNumber, k: Counter, p: Packet) -> 
 fn look(h: Host, link: LinkNumber, packet: &[u8]) -> Arrived
     ensures { result ≡ inspection link.number packet.now h }
 {
-    let p = inspection::inspect(h.settings, link, packet);
+    let p = inspection::inspect(&h.settings, link, packet);
     Arrived {
         reply: inspection::tells(p),
         links: h.links,
@@ -220,7 +220,7 @@ fn act(h: GoodHost, t: NetTable, link: LinkNumber, k: Counter, packet: &[u8]) ->
     requires { RowsBelow t h.host.settings }
     ensures { result ≡ act link.number k packet.now t h.host }
 {
-    match inspection::inspect(h.host.settings, link, packet) {
+    match inspection::inspect(&h.host.settings, link, packet) {
         Err(a) => ends(a, h.host),
         Ok(p) => action(h, t, link, k, p),
     }
