@@ -190,11 +190,10 @@ fn action(h: GoodHost, t: NetTable, link: LinkNumber, k: Counter, p: Packet) -> 
     requires four { Four p.time.0 }
     ensures { result ≡ action k t h.host link.number p }
 {
-    let s = h.host.settings;
     let r = host::our_reading(h, k);
     let clock = r.clock;
     let x = link_of(h.host.links, link);
-    match steps::two_to_four(broadcast(&s, link), clock.hold, p, r.time, x) {
+    match steps::two_to_four(broadcast(&h.host.settings, link), clock.hold, p, r.time, x) {
         ControlFlow::Break(f) => ends(Answer::DelayNotValid, stored(h.host, clock, link, f.link)),
         ControlFlow::Continue(f) => {
             let after = stored(h.host, clock, link, f.link);

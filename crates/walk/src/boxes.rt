@@ -81,7 +81,8 @@ fn box3(h: Host, w: OnLink, p: Packet) -> Effect
     requires w_value { reading_in_range w.walk ≡ true }
     ensures { result ≡ box3 p h w.walk }
 {
-    let f = measured(broadcast(&h.settings, w.link()), p, in_flight(h.links, w));
+    let settings = h.settings;
+    let f = measured(broadcast(&settings, w.link()), p, in_flight(h.links, w));
     onward(
         at(4, 0, 0, holding(f, w.walk)),
         h.clock,
@@ -94,8 +95,9 @@ fn box3(h: Host, w: OnLink, p: Packet) -> Effect
 fn box4(h: Host, w: OnLink, p: Packet) -> Effect
     ensures { result ≡ box4 p h w.walk }
 {
+    let settings = h.settings;
     match step4(
-        broadcast(&h.settings, w.link()),
+        broadcast(&settings, w.link()),
         h.clock.hold,
         p,
         in_flight(h.links, w),
@@ -141,16 +143,18 @@ fn box5(h: GoodHost, t: &NetTable, w: OnLink, p: Packet) -> Effect
     requires rows { RowsBelow t.now h.host.settings }
     ensures { result ≡ box5 p t.now h.host w.walk }
 {
-    let Host {
-        settings,
-        clock,
-        links,
-    } = h.host;
+    let host = h.host;
     if p.nhosts == 0 {
-        let found = host::found_for(t, &settings, link_of(links, w.link()).neighbor);
-        return to_neighbor(h.host, raised(w.walk), found);
+        let settings = host.settings;
+        let found = host::found_for(t, &settings, link_of(host.links, w.link()).neighbor);
+        return to_neighbor(host, raised(w.walk), found);
     }
-    onward(at(5, 1, 0, raised(w.walk)), clock, links, nothing())
+    onward(
+        at(5, 1, 0, raised(w.walk)),
+        host.clock,
+        host.links,
+        nothing(),
+    )
 }
 
 // The box of a place: a match, since each box takes other parts of the walk.
