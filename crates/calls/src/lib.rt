@@ -553,7 +553,7 @@ pub fn deliver(
     let h = GoodHost {
         host: host_of(settings, clock, links),
     };
-    let p = arrival::deliver(h, *net_table, delivery, packet);
+    let p = arrival::deliver(h, net_table, delivery, packet);
     let w = places::updates_at(number, p.work);
     *links = p.links;
     *clock = update_all(entries, w, packet);
