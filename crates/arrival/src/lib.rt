@@ -161,12 +161,13 @@ fn no_table(
     }
 }
 
-fn step5(h: Host, t: NetTable, link: LinkNumber, n: Count, p: Packet, f: Flight) -> Arrived
-    requires { (settings_good h.settings ≡ true) × RowsBelow t h.settings }
-    ensures { result ≡ step5 t h link.number n p f }
+fn step5(h: Host, t: &NetTable, link: LinkNumber, n: Count, p: Packet, f: Flight) -> Arrived
+    requires { (settings_good h.settings ≡ true) × RowsBelow t.now h.settings }
+    ensures { result ≡ step5 t.now h link.number n p f }
 {
     if p.nhosts == 0 {
-        let found = host::found_for(t, h.settings, f.link.neighbor);
+        let settings = h.settings;
+        let found = host::found_for(t, &settings, f.link.neighbor);
         return no_table(h, link, n, p, f, found);
     }
     let ids = host_count(h.settings);
@@ -185,16 +186,16 @@ fn stored(h: Host, clock: Clock, link: LinkNumber, x: Link) -> Host
 }
 
 // Steps 2 to 5, with one reading.
-fn action(h: GoodHost, t: NetTable, link: LinkNumber, k: Counter, p: Packet) -> Arrived
-    requires rows { RowsBelow t h.host.settings }
+fn action(h: GoodHost, t: &NetTable, link: LinkNumber, k: Counter, p: Packet) -> Arrived
+    requires rows { RowsBelow t.now h.host.settings }
     requires four { Four p.time.0 }
-    ensures { result ≡ action k t h.host link.number p }
+    ensures { result ≡ action k t.now h.host link.number p }
 {
-    let s = h.host.settings;
+    let settings = h.host.settings;
     let r = host::our_reading(h, k);
     let clock = r.clock;
     let x = link_of(h.host.links, link);
-    match steps::two_to_four(broadcast(s, link), clock.hold, p, r.time, x) {
+    match steps::two_to_four(broadcast(&settings, link), clock.hold, p, r.time, x) {
         ControlFlow::Break(f) => ends(Answer::DelayNotValid, stored(h.host, clock, link, f.link)),
         ControlFlow::Continue(f) => {
             let after = stored(h.host, clock, link, f.link);
@@ -207,7 +208,8 @@ fn action(h: GoodHost, t: NetTable, link: LinkNumber, k: Counter, p: Packet) -> 
 fn look(h: Host, link: LinkNumber, packet: &[u8]) -> Arrived
     ensures { result ≡ inspection link.number packet.now h }
 {
-    let p = inspection::inspect(h.settings, link, packet);
+    let settings = h.settings;
+    let p = inspection::inspect(&settings, link, packet);
     Arrived {
         reply: inspection::tells(p),
         links: h.links,
@@ -216,11 +218,12 @@ fn look(h: Host, link: LinkNumber, packet: &[u8]) -> Arrived
 }
 
 // Answers 3 to 9 by the inspection, then the action.
-fn act(h: GoodHost, t: NetTable, link: LinkNumber, k: Counter, packet: &[u8]) -> Arrived
-    requires { RowsBelow t h.host.settings }
-    ensures { result ≡ act link.number k packet.now t h.host }
+fn act(h: GoodHost, t: &NetTable, link: LinkNumber, k: Counter, packet: &[u8]) -> Arrived
+    requires { RowsBelow t.now h.host.settings }
+    ensures { result ≡ act link.number k packet.now t.now h.host }
 {
-    match inspection::inspect(h.host.settings, link, packet) {
+    let settings = h.host.settings;
+    match inspection::inspect(&settings, link, packet) {
         Err(a) => ends(a, h.host),
         Ok(p) => action(h, t, link, k, p),
     }
@@ -235,9 +238,9 @@ pub fn on_link(d: Delivery) -> usize
 }
 
 // The arrival in one piece equals the action alone, since the action inspects too.
-pub fn deliver(h: GoodHost, t: NetTable, d: Delivery, packet: &[u8]) -> Arrived
-    requires { (1 ≤ on_link d) × (on_link d ≤ 8) × RowsBelow t h.host.settings }
-    ensures { (result ≡ delivered d packet.now t h.host) × (result.work.count.0 < 2 ^ 16) }
+pub fn deliver(h: GoodHost, t: &NetTable, d: Delivery, packet: &[u8]) -> Arrived
+    requires { (1 ≤ on_link d) × (on_link d ≤ 8) × RowsBelow t.now h.host.settings }
+    ensures { (result ≡ delivered d packet.now t.now h.host) × (result.work.count.0 < 2 ^ 16) }
 {
     match d {
         Delivery::Inspect(number) => look(h.host, LinkNumber { number }, packet),

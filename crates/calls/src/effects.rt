@@ -106,9 +106,10 @@ pub(crate) fn looked(found: Option<usize>, e: Entry) -> Reply
 }
 
 // A match, since each request has input of its own.
-pub(crate) fn effect(host: Host, t: NetTable, w: Walk, copy: &[u8], e: Entry, q: Request) -> Effect
-    requires { Ready (scope_of q) host.settings host.clock × RowsBelow t host.settings × (initialized (scope_of q) ≡ false → walk_in_range host.settings w copy.now ≡ true) }
-    ensures { result ≡ effect q t host w copy.now e }
+#[inline(always)]
+pub(crate) fn effect(host: Host, t: &NetTable, w: Walk, copy: &[u8], e: Entry, q: Request) -> Effect
+    requires { Ready (scope_of q) host.settings host.clock × RowsBelow t.now host.settings × (initialized (scope_of q) ≡ false → walk_in_range host.settings w copy.now ≡ true) }
+    ensures { result ≡ effect q t.now host w copy.now e }
 {
     let l = host.links;
     match q {
@@ -124,7 +125,7 @@ pub(crate) fn effect(host: Host, t: NetTable, w: Walk, copy: &[u8], e: Entry, q:
                 host.clock,
                 l,
                 w,
-                looked(host::found_for(t, host.settings, a), e),
+                looked(host::found_for(t, &host.settings, a), e),
             )
         }
         Request::Step(k) => walk::step(GoodHost { host }, t, w, copy, e, k),

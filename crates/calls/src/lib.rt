@@ -56,6 +56,7 @@ fn refuses(g: Answer) -> bool
 }
 
 // The host of its borrowed parts.
+#[inline(always)]
 fn host_of(settings: &Settings, clock: &Clock, links: &Links) -> Host
     ensures { result ≡ host settings.now clock.now links.now }
 {
@@ -89,12 +90,11 @@ pub fn call(
     if refuses(g) {
         return plainly(g);
     }
-    let t = *net_table;
     let v = *walk;
-    let z = places::sought(*settings, t, v, number, request);
+    let z = places::sought(settings, net_table, v, number, request);
     let e = entry_of(entries, z);
     let h = host_of(settings, clock, links);
-    let p = effects::effect(h, t, v, copy, e, request);
+    let p = effects::effect(h, net_table, v, copy, e, request);
     let w = places::placed(number, p.work);
     change_all(entries, w);
     *clock = p.clock;
@@ -118,7 +118,7 @@ pub fn initialize(
         (call_state settings.now net_table.now number clock.old links.old walk.old copy.now entries.old)
         result clock.new links.new walk.new copy.now entries.new }
 {
-    let g = guard_initialize(settings, *net_table, number, entries.len());
+    let g = guard_initialize(settings, net_table, number, entries.len());
     if refuses(g) {
         return plainly(g);
     }
@@ -390,7 +390,7 @@ pub fn lookup(
     if refuses(g) {
         return plainly(g);
     }
-    let f = host::found_for(*net_table, *settings, address);
+    let f = host::found_for(net_table, settings, address);
     let z = places::seek_at(number, f);
     let e = entry_of(entries, z);
     effects::looked(f, e)
@@ -428,7 +428,7 @@ pub fn open_walk(
         return plainly(g);
     }
     let i = LinkNumber { number: link };
-    let p = walk::opened_by(*settings, *walk, i, packet);
+    let p = walk::opened_by(settings, *walk, i, packet);
     walk::keep(copy, packet, p.octets);
     *walk = p.walk;
     p.reply
@@ -516,7 +516,7 @@ pub fn inspect(
         return plainly(g);
     }
     let i = LinkNumber { number: link };
-    plans::inspect(*settings, i, packet)
+    plans::inspect(settings, i, packet)
 }
 
 // A packet that arrives on a link: it is inspected, acted on, or received, which is both in turn.
@@ -553,7 +553,7 @@ pub fn deliver(
     let h = GoodHost {
         host: host_of(settings, clock, links),
     };
-    let p = arrival::deliver(h, *net_table, delivery, packet);
+    let p = arrival::deliver(h, net_table, delivery, packet);
     let w = places::updates_at(number, p.work);
     *links = p.links;
     *clock = update_all(entries, w, packet);

@@ -17,8 +17,8 @@ use net_table::NetTable;
 use table::entries::{Changes, Reports, Updates};
 
 // The id whose entry is looked at.
-fn wanted(s: Settings, t: NetTable, w: Walk, q: Request) -> Option<usize>
-    ensures { result ≡ wanted q t s w }
+fn wanted(s: &Settings, t: &NetTable, w: Walk, q: Request) -> Option<usize>
+    ensures { result ≡ wanted q t.now s.now w }
 {
     match q {
         Request::Initialize
@@ -43,9 +43,15 @@ pub(crate) fn seek_at(number: usize, found: Option<usize>) -> Option<usize>
 }
 
 // The place of the entry that is looked at.
-pub(crate) fn sought(s: Settings, t: NetTable, w: Walk, number: usize, q: Request) -> Option<usize>
-    requires { (number ≤ 15) × (has_place (wanted q t s w) ≡ true) }
-    ensures { result ≡ seek_at number (wanted q t s w) }
+pub(crate) fn sought(
+    s: &Settings,
+    t: &NetTable,
+    w: Walk,
+    number: usize,
+    q: Request,
+) -> Option<usize>
+    requires { (number ≤ 15) × (has_place (wanted q t.now s.now w) ≡ true) }
+    ensures { result ≡ seek_at number (wanted q t.now s.now w) }
 {
     seek_at(number, wanted(s, t, w, q))
 }

@@ -61,6 +61,7 @@ pub(crate) fn set(h: GoodHost, ms: i32, n: Count) -> Timed
     }
 }
 
+#[inline(always)]
 #[tactic(auto, unfolding(crate::specs::Effects::read))]
 pub(crate) fn read(h: GoodHost, k: Counter) -> Timed
     ensures { Timely result (Read k) h.host }
@@ -95,8 +96,8 @@ pub(crate) fn self_report(h: GoodHost, k: Counter) -> Aged
     }
 }
 
-pub(crate) fn inspect(s: Settings, link: LinkNumber, packet: &[u8]) -> Reply
-    ensures { result ≡ tells (inspect s link.number packet.now) }
+pub(crate) fn inspect(s: &Settings, link: LinkNumber, packet: &[u8]) -> Reply
+    ensures { result ≡ tells (inspect s.now link.number packet.now) }
 {
     inspection::tells(inspection::inspect(s, link, packet))
 }

@@ -10,7 +10,7 @@ use net_table::NetTable;
 pub fn is_bad(t: NetTable) -> bool
     ensures { result ≡ table_bad t }
 {
-    net_table::is_bad(t)
+    net_table::is_bad(&t)
 }
 
 // The number of an answer in the table.

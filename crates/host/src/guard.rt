@@ -101,7 +101,7 @@ fn in_walk(w: Walk, scope: Scope) -> bool
 // Which entries to look at, if all that is tested before them is good.
 fn held(
     s: &Settings,
-    t: NetTable,
+    t: &NetTable,
     number: usize,
     c: Clock,
     l: &Links,
@@ -110,7 +110,7 @@ fn held(
     scope: Scope,
     n: usize,
 ) -> Option<Scan>
-    ensures { result ≡ held scope t number (host s.now c l.now) w copy.now n }
+    ensures { result ≡ held scope t.now number (host s.now c l.now) w copy.now n }
 {
     if net_table::is_bad(t) || places_missing(number, n) {
         return None;
@@ -128,15 +128,15 @@ fn held(
         c,
         l,
         links,
-        super::walk::in_range(*s, w, copy),
+        super::walk::in_range(s, w, copy),
         s.marks,
     )
 }
 
 // All is within its range: 16 during a walk, then 1. The settings are tested in parts, here and in `guard_initialize`: each part is small enough to be inlined into both, and one test of all, `fit`, is not.
 #[tactic(auto, unfolding(crate::specs::Settings::settings_good))]
-fn judged(s: &Settings, t: NetTable, w: Walk, scope: Scope) -> Answer
-    ensures { result ≡ judged s.now t w scope }
+fn judged(s: &Settings, t: &NetTable, w: Walk, scope: Scope) -> Answer
+    ensures { result ≡ judged s.now t.now w scope }
 {
     if in_walk(w, scope) {
         return Answer::InWalk;
@@ -163,7 +163,7 @@ pub fn guard(
 {
     let Some(scan) = held(
         settings,
-        *net_table,
+        net_table,
         number,
         *clock,
         links,
@@ -177,13 +177,13 @@ pub fn guard(
     if !all_in_range(entries, scan) {
         return Answer::OutOfRange;
     }
-    judged(settings, *net_table, *walk, scope)
+    judged(settings, net_table, *walk, scope)
 }
 
 // The same for initialization: clock, links, walk and entries may be anything; the host table has that many places.
 #[tactic(auto, unfolding(crate::specs::Settings::settings_good))]
-pub fn guard_initialize(s: &Settings, t: NetTable, number: usize, places: usize) -> Answer
-    ensures { result ≡ judged_initialize s.now t number places }
+pub fn guard_initialize(s: &Settings, t: &NetTable, number: usize, places: usize) -> Answer
+    ensures { result ≡ judged_initialize s.now t.now number places }
 {
     if net_table::is_bad(t) || places_missing(number, places) {
         return Answer::OutOfRange;

@@ -12,8 +12,8 @@ use wire::Packet;
 
 // Is the packet's table of another layout of ids?
 #[tactic(auto, unfolding(crate::specs::Inspection::other_layout))]
-fn other_layout(s: Settings, p: Packet) -> bool
-    ensures { result ≡ other_layout s p }
+fn other_layout(s: &Settings, p: Packet) -> bool
+    ensures { result ≡ other_layout s.now p }
 {
     p.nhosts != 0
         && (p.nhosts as usize != s.layout.nhosts || p.address_offset != s.layout.address_offset)
@@ -21,8 +21,8 @@ fn other_layout(s: Settings, p: Packet) -> bool
 
 // Has our own packet come back on a point-to-point link?
 #[tactic(auto, unfolding(crate::specs::Inspection::looped))]
-fn looped(s: Settings, link: LinkNumber, p: Packet) -> bool
-    ensures { result ≡ looped s link.number p }
+fn looped(s: &Settings, link: LinkNumber, p: Packet) -> bool
+    ensures { result ≡ looped s.now link.number p }
 {
     if broadcast(s, link) {
         return false;
@@ -31,9 +31,9 @@ fn looped(s: Settings, link: LinkNumber, p: Packet) -> bool
 }
 
 // A packet that could be read, by the settings.
-fn compared(s: Settings, link: LinkNumber, p: Packet) -> Result<Packet, Answer>
+fn compared(s: &Settings, link: LinkNumber, p: Packet) -> Result<Packet, Answer>
     requires { Four p.time.0 }
-    ensures { (result ≡ inspected s link.number (Ok p)) × IfOk result (λ p. Four p.time.0) }
+    ensures { (result ≡ inspected s.now link.number (Ok p)) × IfOk result (λ p. Four p.time.0) }
 {
     if other_layout(s, p) {
         return Err(Answer::OtherLayout);
@@ -45,8 +45,8 @@ fn compared(s: Settings, link: LinkNumber, p: Packet) -> Result<Packet, Answer>
 }
 
 #[tactic(auto, unfolding(crate::specs::Inspection::inspect))]
-pub fn inspect(s: Settings, link: LinkNumber, packet: &[u8]) -> Result<Packet, Answer>
-    ensures { (result ≡ inspect s link.number packet.now) × IfOk result (λ p. Four p.time.0) }
+pub fn inspect(s: &Settings, link: LinkNumber, packet: &[u8]) -> Result<Packet, Answer>
+    ensures { (result ≡ inspect s.now link.number packet.now) × IfOk result (λ p. Four p.time.0) }
 {
     compared(s, link, wire::parse(packet)?)
 }

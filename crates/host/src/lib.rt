@@ -160,10 +160,10 @@ pub fn own_id(s: Settings) -> Option<usize>
 }
 
 // The id of an address, by the host's own net or the class's net table.
-pub fn found_for(t: NetTable, s: Settings, a: wire::Address) -> Option<usize>
-    ensures { result ≡ found_for t s a }
+pub fn found_for(t: &NetTable, s: &Settings, a: wire::Address) -> Option<usize>
+    ensures { result ≡ found_for t.now s.now a }
 {
-    route::find(s.address, s.layout, t.net, a)
+    route::find(s.address, s.layout, &t.net, a)
 }
 
 // Is there an id, and is it marked?
@@ -176,7 +176,8 @@ fn found_marked(m: table::marks::Marks, found: Option<usize>) -> bool
     }
 }
 
-// Our reading of the clock, and the clock to carry on with.
+// Our reading of the clock, and the clock to carry on with. It is compiled into its callers, so that a host by value is not copied for it.
+#[inline(always)]
 pub fn our_reading(h: GoodHost, k: clock::Counter) -> clock::Reading
     ensures { result ≡ our_reading k h.host }
 {

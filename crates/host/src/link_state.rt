@@ -44,8 +44,8 @@ fn is_broadcast(x: LinkSetting) -> bool
 }
 
 // Is the link a broadcast link?
-pub fn broadcast(s: Settings, link: LinkNumber) -> bool
-    ensures { result ≡ broadcast s link.number }
+pub fn broadcast(s: &Settings, link: LinkNumber) -> bool
+    ensures { result ≡ broadcast s.now link.number }
 {
     is_broadcast(s.links[link.number - 1])
 }

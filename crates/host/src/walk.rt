@@ -135,9 +135,9 @@ fn walk_update(w: Walk) -> Update
 }
 
 // What the lines of its id update it with.
-pub fn line_update(s: Settings, w: Walk, p: Packet, packet: &[u8]) -> Update
-    requires reported { Reported s p packet.now }
-    requires w_value { id_in_range s w ≡ true }
+pub fn line_update(s: &Settings, w: Walk, p: Packet, packet: &[u8]) -> Update
+    requires reported { Reported s.now p packet.now }
+    requires w_value { id_in_range s.now w ≡ true }
     ensures { (result ≡ line_update w p packet.now) × (delay_in_range result ≡ true) }
 {
     let u = walk_update(w);
@@ -162,24 +162,24 @@ fn reading_good(w: Walk) -> bool
 }
 
 // Are our reading and the id within their ranges?
-fn id_good(s: Settings, w: Walk) -> bool
-    ensures { result ≡ (reading_in_range w && id_in_range s w) }
+fn id_good(s: &Settings, w: Walk) -> bool
+    ensures { result ≡ (reading_in_range w && id_in_range s.now w) }
 {
     reading_good(w) && (w.id as usize) < s.layout.nhosts
 }
 
 // Our reading, the id, and what line (c) would store.
-fn line_c_good(s: Settings, w: Walk, p: Packet, packet: &[u8]) -> bool
-    requires { Reported s p packet.now }
-    ensures { result ≡ walk_fields_at (Some LineC) s w p packet.now }
+fn line_c_good(s: &Settings, w: Walk, p: Packet, packet: &[u8]) -> bool
+    requires { Reported s.now p packet.now }
+    ensures { result ≡ walk_fields_at (Some LineC) s.now w p packet.now }
 {
     id_good(s, w) && storable(line_update(s, w, p, packet))
 }
 
 // Are the values that a walk has at its place within their ranges?
-fn fields_good(s: Settings, w: Walk, p: Packet, packet: &[u8]) -> bool
-    requires { Reported s p packet.now }
-    ensures { result ≡ walk_fields_at (place_of w) s w p packet.now }
+fn fields_good(s: &Settings, w: Walk, p: Packet, packet: &[u8]) -> bool
+    requires { Reported s.now p packet.now }
+    ensures { result ≡ walk_fields_at (place_of w) s.now w p packet.now }
 {
     match place_of(w) {
         None => false,
@@ -192,9 +192,9 @@ fn fields_good(s: Settings, w: Walk, p: Packet, packet: &[u8]) -> bool
 
 // Does the inspection pass the packet, and are the walk's other values within their ranges?
 #[tactic(auto, using(crate::proofs::Inspected::inspected_fits))]
-fn packet_good(s: Settings, w: Walk, packet: &[u8]) -> bool
+fn packet_good(s: &Settings, w: Walk, packet: &[u8]) -> bool
     requires { (1 ≤ w.link) × (w.link ≤ 8) }
-    ensures { result ≡ packet_fits s w packet.now (inspect s w.link packet.now) }
+    ensures { result ≡ packet_fits s.now w packet.now (inspect s.now w.link packet.now) }
 {
     let number = w.link as usize;
     match inspection::inspect(s, LinkNumber { number }, packet) {
@@ -205,13 +205,13 @@ fn packet_good(s: Settings, w: Walk, packet: &[u8]) -> bool
 
 // Is a walk, if one is open, within its ranges?
 #[tactic(auto, unfolding(crate::specs::Walk::walk_in_range, crate::specs::State::no_link))]
-pub fn in_range(s: Settings, w: Walk, copy: &[u8]) -> bool
-    ensures { result ≡ walk_in_range s w copy.now }
+pub fn in_range(s: &Settings, w: Walk, copy: &[u8]) -> bool
+    ensures { result ≡ walk_in_range s.now w copy.now }
 {
     if !is_open(w) {
         return true;
     }
-    if !link_state::is_link(link_state::count(s), w.link as usize) {
+    if !link_state::is_link(link_state::count(*s), w.link as usize) {
         return false;
     }
     let n = w.length as usize;

@@ -61,12 +61,12 @@ fn nhosts_bad(n: usize) -> bool
 
 // Is it a table that every call except initializing refuses with 12?
 #[tactic(auto, unfolding(crate::specs::Table::table_bad))]
-pub fn is_bad(table: NetTable) -> bool
-    ensures { result ≡ table_bad table }
+pub fn is_bad(table: &NetTable) -> bool
+    ensures { result ≡ table_bad table.now }
 {
     rows::MOST < table.net.count
         || nhosts_bad(table.nhosts)
-        || !route::ids_below(table.net, table.nhosts)
+        || !route::ids_below(&table.net, table.nhosts)
 }
 
 // Is there no row k of n?
@@ -108,7 +108,7 @@ pub fn initialize_table(table: &mut NetTable, nhosts: usize) -> Answer
 pub fn add(table: &mut NetTable, net: Net, id: usize) -> Added
     ensures { (table.new ≡ (add net id table.old).table) × (result ≡ (add net id table.old).added) }
 {
-    if is_bad(*table) {
+    if is_bad(table) {
         return none_added(Answer::OutOfRange);
     }
     let n = table.net.in_use().len();
@@ -137,7 +137,7 @@ pub fn add(table: &mut NetTable, net: Net, id: usize) -> Added
 pub fn remove(table: &mut NetTable, row: usize) -> Answer
     ensures { (table.new ≡ (remove row table.old).table) × (result ≡ (remove row table.old).answer) }
 {
-    if is_bad(*table) {
+    if is_bad(table) {
         return Answer::OutOfRange;
     }
     let n = table.net.in_use().len();
@@ -156,7 +156,7 @@ pub fn remove(table: &mut NetTable, row: usize) -> Answer
 pub fn change(table: &mut NetTable, row: usize, id: usize) -> Answer
     ensures { (table.new ≡ (change row id table.old).table) × (result ≡ (change row id table.old).answer) }
 {
-    if is_bad(*table) {
+    if is_bad(table) {
         return Answer::OutOfRange;
     }
     let n = table.net.in_use().len();

@@ -154,8 +154,8 @@ fn search(table: &NetRows, net: Net) -> Option<usize>
 
 // The host id of an address, as a host of the address ours finds it.
 #[tactic(auto, unfolding(crate::specs::Find::find))]
-pub fn find(ours: Address, layout: Layout, table: NetRows, address: Address) -> Option<usize>
-    ensures { result ≡ find ours layout table address }
+pub fn find(ours: Address, layout: Layout, table: &NetRows, address: Address) -> Option<usize>
+    ensures { result ≡ find ours layout table.now address }
 {
     if above_c(address) {
         return None;
@@ -163,12 +163,12 @@ pub fn find(ours: Address, layout: Layout, table: NetRows, address: Address) -> 
     if same_net(ours, address) {
         return local_id(layout, address);
     }
-    search(&table, net_of(address))
+    search(table, net_of(address))
 }
 
 // Is the id of every row below n?
-pub fn ids_below(table: NetRows, n: usize) -> bool
-    ensures { result ≡ ids_below n (rows_of table) }
+pub fn ids_below(table: &NetRows, n: usize) -> bool
+    ensures { result ≡ ids_below n (rows_of table.now) }
 {
     table.in_use().iter().all(|row| (row.host as usize) < n)
 }

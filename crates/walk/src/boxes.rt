@@ -29,6 +29,7 @@ use table::Entry;
 use wire::Packet;
 
 #[tactic(auto, unfolding(crate::specs::Boxes::box1))]
+#[inline(always)]
 fn box1(h: GoodHost, w: Walk, k: Counter) -> Effect
     ensures { result ≡ box1 k h.host w }
 {
@@ -42,6 +43,7 @@ fn box1(h: GoodHost, w: Walk, k: Counter) -> Effect
 }
 
 #[tactic(auto, unfolding(crate::specs::Boxes::box2, arrival::specs::Steps::step2))]
+#[inline(always)]
 fn box2(h: Host, w: OnLink) -> Effect
     ensures { result ≡ box2 h w.walk }
 {
@@ -73,12 +75,14 @@ fn measured(broadcast: bool, p: Packet, f: Flight) -> Flight
 }
 
 #[tactic(auto, unfolding(crate::specs::Boxes::box3))]
+#[inline(always)]
 fn box3(h: Host, w: OnLink, p: Packet) -> Effect
     requires four { Four p.time.0 }
     requires w_value { reading_in_range w.walk ≡ true }
     ensures { result ≡ box3 p h w.walk }
 {
-    let f = measured(broadcast(h.settings, w.link()), p, in_flight(h.links, w));
+    let settings = h.settings;
+    let f = measured(broadcast(&settings, w.link()), p, in_flight(h.links, w));
     onward(
         at(4, 0, 0, holding(f, w.walk)),
         h.clock,
@@ -87,11 +91,13 @@ fn box3(h: Host, w: OnLink, p: Packet) -> Effect
     )
 }
 
+#[inline(always)]
 fn box4(h: Host, w: OnLink, p: Packet) -> Effect
     ensures { result ≡ box4 p h w.walk }
 {
+    let settings = h.settings;
     match step4(
-        broadcast(h.settings, w.link()),
+        broadcast(&settings, w.link()),
         h.clock.hold,
         p,
         in_flight(h.links, w),
@@ -120,6 +126,7 @@ fn raised(w: Walk) -> Walk
     }
 }
 
+#[inline(always)]
 fn to_neighbor(h: Host, w: Walk, found: Option<usize>) -> Effect
     requires { has_place found ≡ true }
     ensures { result ≡ to_neighbor h w found }
@@ -131,37 +138,41 @@ fn to_neighbor(h: Host, w: Walk, found: Option<usize>) -> Effect
 }
 
 #[tactic(auto, unfolding(crate::specs::Boxes::box5))]
-fn box5(h: GoodHost, t: NetTable, w: OnLink, p: Packet) -> Effect
-    requires rows { RowsBelow t h.host.settings }
-    ensures { result ≡ box5 p t h.host w.walk }
+#[inline(always)]
+fn box5(h: GoodHost, t: &NetTable, w: OnLink, p: Packet) -> Effect
+    requires rows { RowsBelow t.now h.host.settings }
+    ensures { result ≡ box5 p t.now h.host w.walk }
 {
-    let Host {
-        settings,
-        clock,
-        links,
-    } = h.host;
+    let host = h.host;
     if p.nhosts == 0 {
-        let found = host::found_for(t, settings, link_of(links, w.link()).neighbor);
-        return to_neighbor(h.host, raised(w.walk), found);
+        let settings = host.settings;
+        let found = host::found_for(t, &settings, link_of(host.links, w.link()).neighbor);
+        return to_neighbor(host, raised(w.walk), found);
     }
-    onward(at(5, 1, 0, raised(w.walk)), clock, links, nothing())
+    onward(
+        at(5, 1, 0, raised(w.walk)),
+        host.clock,
+        host.links,
+        nothing(),
+    )
 }
 
 // The box of a place: a match, since each box takes other parts of the walk.
+#[inline(always)]
 fn box_at(
     h: GoodHost,
-    t: NetTable,
+    t: &NetTable,
     w: OnLink,
     p: Packet,
     packet: &[u8],
     e: Entry,
     k: Counter,
 ) -> Effect
-    requires rows { RowsBelow t h.host.settings }
+    requires rows { RowsBelow t.now h.host.settings }
     requires four { Four p.time.0 }
     requires reported { Reported h.host.settings p packet.now }
     requires packet_value { walk_fields_at (place_of w.walk) h.host.settings w.walk p packet.now ≡ true }
-    ensures { result ≡ box_at (place_of w.walk) k p packet.now t h.host w.walk e }
+    ensures { result ≡ box_at (place_of w.walk) k p packet.now t.now h.host w.walk e }
 {
     let host = h.host;
     match host::walk::place_of(w.walk) {
@@ -179,10 +190,11 @@ fn box_at(
 }
 
 // The box of the walk's place. The guard tested the packet, so its fields are read without a test.
-pub fn box_of(h: GoodHost, t: NetTable, w: OnLink, packet: &[u8], e: Entry, k: Counter) -> Effect
-    requires rows { RowsBelow t h.host.settings }
+#[inline(always)]
+pub fn box_of(h: GoodHost, t: &NetTable, w: OnLink, packet: &[u8], e: Entry, k: Counter) -> Effect
+    requires rows { RowsBelow t.now h.host.settings }
     requires packet_value { packet_fits h.host.settings w.walk packet.now (inspect h.host.settings w.walk.link packet.now) ≡ true }
-    ensures { result ≡ box_of k packet.now t h.host w.walk e (inspect h.host.settings w.walk.link packet.now) }
+    ensures { result ≡ box_of k packet.now t.now h.host w.walk e (inspect h.host.settings w.walk.link packet.now) }
 {
     let p = wire::fields(packet);
     box_at(h, t, w, p, packet, e, k)

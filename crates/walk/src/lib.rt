@@ -48,8 +48,8 @@ fn opened_on(link: LinkNumber, octets: usize) -> Walk
 
 // The tests of 3 to 9, and the walk at its first box.
 #[tactic(auto, unfolding(crate::specs::Opening::opening))]
-pub fn opened_by(s: Settings, w: Walk, link: LinkNumber, packet: &[u8]) -> Opening
-    ensures { (result ≡ opening link.number packet.now s w) × (result.octets ≤ longest) }
+pub fn opened_by(s: &Settings, w: Walk, link: LinkNumber, packet: &[u8]) -> Opening
+    ensures { (result ≡ opening link.number packet.now s.now w) × (result.octets ≤ longest) }
 {
     match inspection::inspect(s, link, packet) {
         Err(a) => Opening {
@@ -89,10 +89,11 @@ pub fn at_hand(w: Walk) -> Option<usize>
 
 // The box of a walk's place; 17 where no walk is open.
 #[tactic(auto, unfolding(crate::specs::Boxes::step))]
-pub fn step(h: GoodHost, t: NetTable, w: Walk, copy: &[u8], e: Entry, k: Counter) -> Effect
-    requires rows { RowsBelow t h.host.settings }
+#[inline(always)]
+pub fn step(h: GoodHost, t: &NetTable, w: Walk, copy: &[u8], e: Entry, k: Counter) -> Effect
+    requires rows { RowsBelow t.now h.host.settings }
     requires walk { walk_in_range h.host.settings w copy.now ≡ true }
-    ensures { result ≡ step k t h.host w copy.now e }
+    ensures { result ≡ step k t.now h.host w copy.now e }
 {
     if !host::walk::is_open(w) {
         return answers(h.host.clock, h.host.links, w, plainly(Answer::NoWalk));

@@ -18,6 +18,7 @@ use table::entries::{Change, Changes};
 use wire::Packet;
 
 // The next id, or the end.
+#[inline(always)]
 fn next_id(h: Host, w: Walk, p: Packet, work: Changes) -> Effect
     ensures { result ≡ next_id p h w work }
 {
@@ -39,29 +40,32 @@ fn is_clock_host(s: Settings, w: Walk) -> bool
     w.id == s.clock_host
 }
 
+#[inline(always)]
 pub fn box_a(h: Host, w: Walk, p: Packet, packet: &[u8], e: Entry) -> Effect
     requires reported { Reported h.settings p packet.now }
     requires w_value { id_in_range h.settings w ≡ true }
     ensures { result ≡ box_a p packet.now h w e }
 {
-    match table::line_a(line_update(h.settings, w, p, packet), e) {
+    match table::line_a(line_update(&h.settings, w, p, packet), e) {
         ControlFlow::Break(_) => next_id(h, w, p, nothing()),
         ControlFlow::Continue(_) => onward(at(5, 2, w.id, w), h.clock, h.links, nothing()),
     }
 }
 
+#[inline(always)]
 pub fn box_b(h: Host, w: Walk, p: Packet, packet: &[u8], e: Entry) -> Effect
     requires reported { Reported h.settings p packet.now }
     requires w_value { id_in_range h.settings w ≡ true }
     ensures { result ≡ box_b p packet.now h w e }
 {
-    match table::line_b(line_update(h.settings, w, p, packet), e) {
+    match table::line_b(line_update(&h.settings, w, p, packet), e) {
         ControlFlow::Break(x) => next_id(h, w, p, put(w, x)),
         ControlFlow::Continue(_) => onward(at(5, 3, w.id, w), h.clock, h.links, nothing()),
     }
 }
 
 // Line (d) follows for the clock host only.
+#[inline(always)]
 fn after_c(h: Host, w: Walk, p: Packet, x: Entry) -> Effect
     ensures { result ≡ after_c p h w (on x) }
 {
@@ -71,18 +75,20 @@ fn after_c(h: Host, w: Walk, p: Packet, x: Entry) -> Effect
     next_id(h, w, p, put(w, x))
 }
 
+#[inline(always)]
 pub fn box_c(h: Host, w: Walk, p: Packet, packet: &[u8], e: Entry) -> Effect
     requires reported { Reported h.settings p packet.now }
     requires w_value { id_in_range h.settings w ≡ true }
     ensures { result ≡ box_c p packet.now h w e }
 {
-    match table::line_c(line_update(h.settings, w, p, packet), e) {
+    match table::line_c(line_update(&h.settings, w, p, packet), e) {
         ControlFlow::Break(x) => next_id(h, w, p, put(w, x)),
         ControlFlow::Continue(x) => after_c(h, w, p, x),
     }
 }
 
 #[tactic(auto, unfolding(crate::specs::LineBoxes::box_d))]
+#[inline(always)]
 pub fn box_d(h: Host, w: Walk, p: Packet, packet: &[u8]) -> Effect
     requires reported { Reported h.settings p packet.now }
     requires w_value { id_in_range h.settings w ≡ true }
@@ -92,7 +98,7 @@ pub fn box_d(h: Host, w: Walk, p: Packet, packet: &[u8]) -> Effect
     if !is_clock_host(h.settings, w) {
         return next_id(h, w, p, nothing());
     }
-    let u = line_update(h.settings, w, p, packet);
+    let u = line_update(&h.settings, w, p, packet);
     let clock = table::line_d(h.settings.hold_interval, w.count, p.date, u.offset, h.clock);
     next_id(Host { clock, ..h }, w, p, nothing())
 }

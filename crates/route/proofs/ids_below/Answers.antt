@@ -10,6 +10,6 @@ use Rattle.route.proofs.ids_below.Goals as goal
 
 pub returns : goal.returns
 returns c =
-    let rows = rows_of c.args.table in
+    let rows = rows_of c.args.table.now in
     all_from_yields_List (λ (r : Row). ltb r.host c.args.n) _ _ c.all.result c.all.ensures.ran (YieldsList-from_slice rows cc) (λ x b q k. search (rules, tests))
     ∙ all_below c.args.n rows

@@ -10,5 +10,5 @@ pub returns-in-Ok : goal.returns-in-Ok
 unfolding opening
 returns-in-Ok c =
     let a = c.args in
-    let fits : Fits a.s a.packet.now (Ok c.in-Ok.p) = subst (Fits a.s a.packet.now) (sym c.inspect.ensures.0 ∙ c.in-Ok.is) (inspected_fits a.s a.link.number a.packet.now) in
+    let fits : Fits a.s.now a.packet.now (Ok c.in-Ok.p) = subst (Fits a.s.now a.packet.now) (sym c.inspect.ensures.0 ∙ c.in-Ok.is) (inspected_fits a.s.now a.link.number a.packet.now) in
     (rw (sym c.inspect.ensures.0 ∙ c.in-Ok.is, c.returns_place.ensures, c.opened_on.ensures, c.length-n.ensures ∙ fits.whole), omega (arith, c.length-n.ensures))

@@ -26,14 +26,14 @@ unfolding definition.tick
 returns-in-Tick c =
     let a = c.args in
     rw c.in-Tick.is
-    (c.timed.ensures ∙ ap (timed a.host.links a.w) (c.tick.ensures a.t a.w a.copy.now a.e))
+    (c.timed.ensures ∙ ap (timed a.host.links a.w) (c.tick.ensures a.t.now a.w a.copy.now a.e))
 
 pub returns-in-Adjust : goal.returns-in-Adjust
 unfolding definition.adjust
 returns-in-Adjust c =
     let a = c.args in
     rw c.in-Adjust.is
-    (c.timed-in-Adjust.ensures ∙ ap (timed a.host.links a.w) (c.adjust.ensures a.t a.w a.copy.now a.e))
+    (c.timed-in-Adjust.ensures ∙ ap (timed a.host.links a.w) (c.adjust.ensures a.t.now a.w a.copy.now a.e))
 
 pub returns-in-Set : goal.returns-in-Set
 unfolding definition.set_by
@@ -43,7 +43,7 @@ returns-in-Set c =
     let f : SFits w32 ms = search rules in
     rw c.in-Set.is
     (c.timed-in-Set.ensures
-    ∙ ap (timed a.host.links a.w) (c.set.ensures a.t a.w a.copy.now a.e)
+    ∙ ap (timed a.host.links a.w) (c.set.ensures a.t.now a.w a.copy.now a.e)
     ∙ ap (λ (z : ℤ). definition.set_by (millis z) c.in-Set.n a.host a.w) (to_z-of_z w32 ms f))
 
 pub returns-in-Read : goal.returns-in-Read
@@ -51,14 +51,14 @@ unfolding definition.read
 returns-in-Read c =
     let a = c.args in
     rw c.in-Read.is
-    (c.timed-in-Read.ensures ∙ ap (timed a.host.links a.w) (c.read.ensures a.t a.w a.copy.now a.e))
+    (c.timed-in-Read.ensures ∙ ap (timed a.host.links a.w) (c.read.ensures a.t.now a.w a.copy.now a.e))
 
 pub returns-in-Second : goal.returns-in-Second
 unfolding definition.second
 returns-in-Second c =
     let a = c.args in
     rw c.in-Second.is
-    (c.aged.ensures ∙ ap (aged a.host.links a.w) (c.second.ensures a.t a.w a.copy.now a.e))
+    (c.aged.ensures ∙ ap (aged a.host.links a.w) (c.second.ensures a.t.now a.w a.copy.now a.e))
 
 pub returns-in-Lookup : goal.returns-in-Lookup
 unfolding definition.lookup
