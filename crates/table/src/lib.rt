@@ -235,8 +235,9 @@ fn date_taken(date: Date, c: Clock) -> Clock
     c
 }
 
-// Line (d), for the clock host: the packet's date is taken, and the clock is set by OFFSET.
+// Line (d), for the clock host: the packet's date is taken, and the clock is set by OFFSET. It is inlined: a call of it would keep the clock in memory, where the loop over the entries copied it twice for each.
 #[tactic(auto, unfolding(crate::specs::Update::line_d), using(crate::proofs::Kept::date_in_range))]
+#[inline(always)]
 pub fn line_d(hold_interval: Seconds, n: Count, date: Date, offset: Word, c: Clock) -> Clock
     requires { clock_in_range c ≡ true }
     ensures { result ≡ line_d hold_interval n date offset c }
