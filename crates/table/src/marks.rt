@@ -16,15 +16,15 @@ pub fn none() -> Marks
     Marks { words: [0; 4] }
 }
 
-// The word with an id's mark, or 0 where there is none. Each word is named: one that is taken by a number worked out has all words copied first.
+// The word with an id's mark, or 0 where there is none. Each word is named: one that is taken by a number worked out has all words copied first. A match of ranges is a few comparisons, and one of id / 64 a table of jumps.
 pub fn word_of(m: Marks, id: usize) -> u64
     ensures { result ≡ word_of m id }
 {
-    match id / 64 {
-        0 => m.words[0],
-        1 => m.words[1],
-        2 => m.words[2],
-        3 => m.words[3],
+    match id {
+        0..=63 => m.words[0],
+        64..=127 => m.words[1],
+        128..=191 => m.words[2],
+        192..=255 => m.words[3],
         _ => 0,
     }
 }
