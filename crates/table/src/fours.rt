@@ -94,7 +94,7 @@ fn four_at(entries: &[Entry], k: usize, w: Stretch) -> bool
 }
 
 // Are all fours of a word as they should be? The loop ends at the first that is not.
-pub(crate) fn all_fours(entries: &[Entry], w: Stretch) -> bool
+pub fn all_fours(entries: &[Entry], w: Stretch) -> bool
     requires { StretchFits w entries.now }
     ensures { result ≡ all_fours w entries.now }
 {

@@ -10,7 +10,7 @@ ghost use Rattle.walk.specs.Opening.{opened_on, opening, copied};
 
 use answer::Answer;
 use clock::Counter;
-use held::OnLink;
+pub use held::OnLink;
 use host::effects::answers;
 use host::link_number::LinkNumber;
 use host::replies::{plainly, returns_place};
