@@ -33,7 +33,7 @@ fn word(low: u8, high: u8) -> u64
     low as u64 + high as u64 * 0x100
 }
 
-// The sum of the words of less than four octets.
+// The sum of the words of fewer than four octets.
 fn last(s: &[u8]) -> u64
     requires { length s.now < 4 }
     ensures value { result ≡ low_sum s.now }
@@ -47,7 +47,7 @@ fn last(s: &[u8]) -> u64
     }
 }
 
-// The same of less than eight octets, up to carries.
+// The same of fewer than eight octets, up to carries.
 #[tactic(auto, using(crate::proofs::LowFirst::four_and_rest))]
 fn few(s: &[u8]) -> u64
     requires { length s.now < 8 }
