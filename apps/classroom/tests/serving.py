@@ -167,7 +167,10 @@ class Page:
                 continue
             returned = message.json()
             if returned.get("n") in self._asked:
-                self._asked.pop(returned["n"]).set_result(returned)
+                asked = self._asked.pop(returned["n"])
+                # A test may stop waiting for a reply, as one that cancels its tasks does.
+                if not asked.cancelled():
+                    asked.set_result(returned)
             else:
                 self.unasked(returned)
         for left in self._asked.values():
